@@ -1,0 +1,12 @@
+pub mod Dots
+pub mod Orders
+pub mod Sameness
+pub mod Indexes
+pub mod Meanings
+pub mod Changes
+pub mod Additions
+pub mod Propers
+pub mod Membership
+pub mod InMemory
+pub mod Findings
+pub mod Steps

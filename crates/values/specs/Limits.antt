@@ -14,9 +14,13 @@ abbrev pub name-bytes : List ℕ → Bool
 name-bytes [] = true
 name-bytes (b ∷ bs) = name-byte b && name-bytes bs
 
+-- `.` and `..`
+abbrev pub dots : List ℕ → Bool
+dots n = same-name n (46 ∷ []) || same-name n (46 ∷ 46 ∷ [])
+
 -- a name has 1 to 32 such bytes, and is neither `.` nor `..`
 abbrev pub fit : Name → Bool
-fit n = name-bytes n && (leb 1 (length n) && (leb (length n) 32 && (not (same-name n (46 ∷ [])) && not (same-name n (46 ∷ 46 ∷ [])))))
+fit n = leb 1 (length n) && (leb (length n) 32 && (not (dots n) && name-bytes n))
 
 -- how many members a binding has
 abbrev pub many : Members → ℕ

@@ -1,7 +1,21 @@
 // Values, and the table that holds each of them once.
+mod checks;
+mod contents;
+mod cut;
+mod find;
+mod names;
+mod nodes;
 mod parts;
+mod push;
+mod reads;
+mod store;
+mod table;
 
+pub use crate::names::is_name;
+pub use crate::names::is_name_byte;
+pub use crate::names::order;
 pub use crate::parts::Content;
 pub use crate::parts::Member;
 pub use crate::parts::Number;
 pub use crate::parts::Unentered;
+pub use crate::store::Table;

@@ -5,11 +5,20 @@ pub type Number = u16;
 
 // The most that a table holds: values, bytes of text, members.
 pub const MAX_VALUES: usize = 2048;
+
 pub const MAX_TEXT: usize = 32768;
+
 pub const MAX_MEMBERS: usize = 4096;
 
+// The most that a value has: bytes of a text, members of a binding, height.
+pub const LONGEST_TEXT: usize = 1024;
+
+pub const MOST_MEMBERS: usize = 64;
+
+pub const GREATEST_HEIGHT: u8 = 16;
+
 // A member of a binding: the number of its name, which is a text, and that of its value.
-#[derive(Clone, Copy)]
+#[derive(Clone, Copy, PartialEq, Eq, PartialOrd, Ord)]
 pub struct Member {
     pub name: Number,
     pub value: Number,

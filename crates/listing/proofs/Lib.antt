@@ -1,0 +1,4 @@
+pub mod Growing
+pub mod Loops
+pub mod Walks
+pub mod Listings

@@ -1,0 +1,4 @@
+pub mod Lists
+pub mod Puts
+pub mod Passes
+pub mod Pieces

@@ -1,0 +1,14 @@
+pub mod Listed
+pub mod Made
+pub mod Splits
+pub mod Spellings
+pub mod Exact
+pub mod Cutting
+pub mod Escaping
+pub mod Order
+pub mod Reading
+pub mod Accepting
+pub mod Spine
+pub mod Counting
+pub mod Taking
+pub mod Checking

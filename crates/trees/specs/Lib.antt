@@ -1,0 +1,12 @@
+pub mod Lines
+pub mod Cuts
+pub mod Files
+pub mod Contents
+pub mod Paths
+pub mod Progress
+pub mod Raw
+pub mod Numbers
+pub mod Following
+pub mod Accepted
+pub mod Laws
+pub mod Examples

@@ -1,0 +1,24 @@
+// Tree files: their lines, and when a file is accepted.
+mod answers;
+mod checks;
+mod escapes;
+mod examples;
+mod lines;
+mod parts;
+mod paths;
+mod progress;
+mod steps;
+mod tree;
+
+pub use crate::answers::Refusal;
+pub use crate::answers::Refused;
+pub use crate::checks::check;
+pub use crate::escapes::Front;
+pub use crate::escapes::next_byte;
+pub use crate::examples::examples_hold;
+pub use crate::lines::RawLeaf;
+pub use crate::lines::RawLine;
+pub use crate::lines::read_line;
+pub use crate::parts::Parts;
+pub use crate::parts::cut;
+pub use crate::tree::Tree;
