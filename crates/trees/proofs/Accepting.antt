@@ -1,14 +1,16 @@
 -- Laws of accepted trees. Assumes nothing.
 use mathlib.Core.Path.{_≡_, refl, sym, ap, subst, _∙_}
 use mathlib.Core.List.{List}
-use mathlib.Core.Bool.{Bool, true, false, _&&_}
-use Prim.Native.Nat.{ℕ}
+use mathlib.Core.Bool.{Bool, true, false, cond, _&&_}
+use Prim.Native.Nat.{ℕ, _≤_}
 use native.Mathlib.Omega.{arith}
 use lib.Dec.{leb}
+use lib.ListN.{length}
+use Rattle.std.proofs.shelf.Ways.{tells}
 use Rattle.values.specs.Values.{Members, nil, binding}
 use Rattle.values.specs.Limits.{proper as is-proper, height, small, ordered, named, all-ordered, all-named}
 use Rattle.trees.specs.Lines.{within}
-use Rattle.trees.specs.Files.{File, done, refused, accepted, members-read, read-tree, listing}
+use Rattle.trees.specs.Files.{File, done, refused, accepted, members-read, split, read-from, read-tree, listing}
 use Rattle.trees.specs.Accepted.{tree-members, tree-value, value-read}
 use Rattle.trees.specs.declared.tree.Tree.{Tree}
 use Rattle.trees.proofs.Splits.{no, both, both-hold}
@@ -59,3 +61,16 @@ accepts bs ms e =
 
 pub lines-agree : Lines-agree
 lines-agree = record { listed = λ ls ms e. fill-lines nil ls ms e; read = read-back }
+
+-- a tree's value is the one read from its bytes
+pub tree-is : (t : Tree) → tree-value t ≡ value-read (t .bytes .now)
+unfolding tree-members
+tree-is t = refl
+
+-- an accepted file is not too long
+pub accepted-short : (bs : List ℕ) → accepted (read-tree bs) ≡ true → length bs ≤ 32768
+accepted-short bs = go (leb (length bs) 32768) refl
+  where
+    go : (b : Bool) → leb (length bs) 32768 ≡ b → accepted (cond b (read-from 0 nil (split 10 bs)) (refused 1 0)) ≡ true → length bs ≤ 32768
+    go true e h = grind (arith, tells)
+    go false e h = no (sym h)

@@ -4,16 +4,11 @@ use mathlib.Core.List.{List, [], _∷_, _++_, map, append-assoc, append-nil}
 use mathlib.Core.Bool.{Bool, true, false, cond, _&&_}
 use Prim.Native.Nat.{ℕ, zero, suc, _+_, _≤_, _<_}
 use native.Mathlib.Omega.{arith}
-use borrow.Author.Needs.{needs}
 use lib.ListN.{length}
-use Rattle.std.specs.Orderings.{Decides}
-use Rattle.std.proofs.shelf.Equals.{compares-decides}
 use Rattle.std.proofs.shelf.Lists.{map-append}
 use Rattle.values.specs.Values.{Name, Value, text, truth, binding, Members, nil, cons, same-name, before}
+use Rattle.values.proofs.Sameness.{name-test}
 use Rattle.trees.specs.Lines.{Leaf, text-leaf, truth-leaf, empty-leaf, Line, line, below, lines, some-lines, lines-of, Read, ok, bad, after, leaf-value, chain, at-end, put, into, within, step, fill}
-
-pub name-test : (s t : Name) → Decides (same-name s t) (s ≡ t)
-name-test = compares-decides same-name (search needs)
 
 pub clash : {P : Type 0} {e : ℕ} {ms : Members} → bad e ≡ ok ms → P
 clash q = let z : _≡_ {A = ℕ} 0 1 = cc in absurd (omega arith)

@@ -10,7 +10,8 @@ use Rattle.std.proofs.shelf.Ways.{tells}
 use Rattle.values.specs.Values.{Name, Value, text, truth, binding, Members, nil, cons, same-name, before}
 use Rattle.values.specs.Limits.{height, heights, many, small, all-small, first-after, ordered, all-ordered}
 use Rattle.trees.specs.Lines.{Leaf, text-leaf, truth-leaf, empty-leaf, Line, line, below, lines, some-lines, lines-of, Read, ok, bad, after, leaf-value, chain, at-end, put, into, within, step, fill}
-use Rattle.trees.proofs.Listed.{name-test, clash, after-ok}
+use Rattle.values.proofs.Sameness.{name-test}
+use Rattle.trees.proofs.Listed.{clash, after-ok}
 
 no : {P : Type 0} → true ≡ false → P
 no e = let z : _≡_ {A = ℕ} 0 1 = cc in absurd (omega arith)

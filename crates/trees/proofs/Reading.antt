@@ -5,7 +5,6 @@ use mathlib.Core.Bool.{Bool, true, false, cond}
 use mathlib.Core.Option.{Option, none, some}
 use Prim.Native.Nat.{ℕ}
 use native.Mathlib.Omega.{arith}
-use Rattle.std.specs.Orderings.{Decides}
 use Rattle.std.specs.declared.option.Option.{Option as Answer}
 use Rattle.std.specs.declared.option.Option.the-variants.{Some, None}
 use denote.Ref.{RefT}
@@ -16,17 +15,8 @@ use Rattle.trees.specs.Lines.{Leaf, Line, line}
 use Rattle.trees.specs.Cuts.{free, behind, Cuts}
 use Rattle.trees.specs.Files.{split, all-fit, when, leaf-of, line-from, line-of}
 use Rattle.trees.specs.Raw.{raw-leaf, read-leaf}
-use Rattle.trees.proofs.Listed.{name-test}
 use Rattle.trees.proofs.Splits.{split-some, split-free}
 use Rattle.trees.proofs.Order.{parts-of}
-
-pub same-answer : (r : Bool) (s t : Name) → Decides r (s ≡ t) → r ≡ same-name s t
-same-answer true s t d = sym (name-test s t .1 (d .0 refl))
-same-answer false s t d = go (same-name s t) refl
-  where
-    go : (b : Bool) → same-name s t ≡ b → false ≡ same-name s t
-    go true e = d .1 (name-test s t .0 e) ∙ sym e
-    go false e = sym e
 
 pub no-kind : (bs : List ℕ) (a : Parts) → Cuts 9 bs a → a .rest ≡ None → none ≡ line-of bs
 no-kind bs a c e = sym (ap line-from (parts-of 9 bs a None c e))

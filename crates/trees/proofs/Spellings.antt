@@ -13,7 +13,8 @@ use Rattle.values.specs.Limits.{dots, all-ordered, name-byte, name-bytes, fit, 
 use Rattle.trees.specs.Lines.{Leaf, text-leaf, truth-leaf, empty-leaf, Line, line, below, lines, some-lines, lines-of, Read, ok, bad, after, step, fill, within}
 use Rattle.trees.specs.Cuts.{free}
 use Rattle.trees.specs.Files.{split, joined, escape, plain, unescape, all-fit, kind-mark, content, true-word, false-word, line-bytes, when, leaf-of, line-from, line-of, File, done, refused, on-step, on-line, read-from, read-tree, written, listing}
-use Rattle.trees.proofs.Listed.{name-test, fill-lines}
+use Rattle.values.proofs.Sameness.{name-test}
+use Rattle.trees.proofs.Listed.{fill-lines}
 use Rattle.trees.proofs.Made.{read-back}
 use Rattle.trees.proofs.Splits.{no, both, both-hold, all-free, split-front, split-free, split-joined, joined-split, free-name, free-both, free-joined, free-escape, unescape-escape, escape-unescape}
 

@@ -13,7 +13,7 @@ use Rattle.values.specs.Limits.{many, height, heights, small, all-small}
 use Rattle.trees.specs.Lines.{Leaf, text-leaf, truth-leaf, empty-leaf, leaf-value, Read, ok, bad, after, chain, at-end, put, into, within}
 use Rattle.trees.specs.Paths.{shared}
 use Rattle.trees.specs.Progress.{if-none, last-path, value-path, deeper-counts, value-counts, counts, place-behind, leaf-height, leaf-small, ones, bumped}
-use Rattle.trees.proofs.Listed.{name-test}
+use Rattle.values.proofs.Sameness.{name-test}
 use Rattle.trees.proofs.Splits.{no, both, both-hold}
 use Rattle.trees.proofs.Order.{shared-end}
 

@@ -11,7 +11,13 @@ mod steps;
 mod tree;
 
 pub use crate::answers::Refusal;
+pub use crate::answers::RefusalDebug;
+pub use crate::answers::RefusalEq;
+pub use crate::answers::RefusalPartialEq;
 pub use crate::answers::Refused;
+pub use crate::answers::RefusedDebug;
+pub use crate::answers::RefusedEq;
+pub use crate::answers::RefusedPartialEq;
 pub use crate::checks::check;
 pub use crate::escapes::Front;
 pub use crate::escapes::next_byte;

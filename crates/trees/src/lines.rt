@@ -1,12 +1,13 @@
 // A line of a tree file: path, tab, kind, tab, content.
 ghost use mathlib.Core.Path.{_≡_};
-ghost use Rattle.values.specs.Values.{same-name, mapped};
+ghost use Rattle.values.specs.Values.{mapped};
 ghost use Rattle.trees.specs.Lines.{text-leaf};
 ghost use Rattle.trees.specs.Files.{unescape, truth-of, empty-of, leaf-of, line-of};
 ghost use Rattle.trees.specs.Raw.{read-leaf, read-line};
 use crate::escapes::text_len;
 use crate::parts::cut;
 use crate::paths::is_path;
+use values::same;
 
 // What stands at the end of a line's path, as the file writes it.
 #[derive(Clone, Copy)]
@@ -25,13 +26,6 @@ pub struct RawLine<'a> {
     pub leaf: RawLeaf<'a>,
 }
 
-// Whether the bytes are a word.
-fn is_word(bytes: &[u8], word: &[u8]) -> bool
-    ensures { λ r. ⌜ r ≡ same-name (now (bytes .entry)) (now (word .entry)) ⌝ }
-{
-    bytes == word
-}
-
 // A text by its content, or none if that is malformed.
 fn text_leaf(content: &[u8]) -> Option<RawLeaf<'_>>
     ensures { λ r. ⌜ read-leaf r ≡ mapped text-leaf (unescape (now (content .entry))) ⌝ }
@@ -46,9 +40,9 @@ fn text_leaf(content: &[u8]) -> Option<RawLeaf<'_>>
 fn truth_leaf<'a>(word: &[u8]) -> Option<RawLeaf<'a>>
     ensures { λ r. ⌜ read-leaf r ≡ truth-of (now (word .entry)) ⌝ }
 {
-    if is_word(word, b"TRUE") {
+    if same(word, b"TRUE") {
         Some(RawLeaf::Truth(true))
-    } else if is_word(word, b"FALSE") {
+    } else if same(word, b"FALSE") {
         Some(RawLeaf::Truth(false))
     } else {
         None
@@ -59,7 +53,7 @@ fn truth_leaf<'a>(word: &[u8]) -> Option<RawLeaf<'a>>
 fn empty_leaf<'a>(content: &[u8]) -> Option<RawLeaf<'a>>
     ensures { λ r. ⌜ read-leaf r ≡ empty-of (now (content .entry)) ⌝ }
 {
-    if is_word(content, b"") {
+    if same(content, b"") {
         Some(RawLeaf::Empty)
     } else {
         None
@@ -70,11 +64,11 @@ fn empty_leaf<'a>(content: &[u8]) -> Option<RawLeaf<'a>>
 fn read_leaf<'a>(kind: &[u8], content: &'a [u8]) -> Option<RawLeaf<'a>>
     ensures { λ r. ⌜ read-leaf r ≡ leaf-of (now (kind .entry)) (now (content .entry)) ⌝ }
 {
-    if is_word(kind, b"t") {
+    if same(kind, b"t") {
         text_leaf(content)
-    } else if is_word(kind, b"b") {
+    } else if same(kind, b"b") {
         truth_leaf(content)
-    } else if is_word(kind, b"e") {
+    } else if same(kind, b"e") {
         empty_leaf(content)
     } else {
         None

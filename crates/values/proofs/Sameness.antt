@@ -115,3 +115,12 @@ position-at (w ∷ T) (suc i) h e = go (same-value (under T i) w) e (position-at
 pub one-more : (T : List Value) (v : Value) → nth (T ++ v ∷ []) (length T) ≡ some v
 one-more [] v = refl
 one-more (w ∷ T) v = one-more T v
+
+-- an answer that decides sameness is the test of it
+pub decided : (r : Bool) (s t : Name) → Decides r (s ≡ t) → r ≡ same-name s t
+decided true s t d = sym (name-test s t .1 (d .0 refl))
+decided false s t d = go (same-name s t) refl
+  where
+    go : (b : Bool) → same-name s t ≡ b → false ≡ same-name s t
+    go true e = d .1 (name-test s t .0 e) ∙ sym e
+    go false e = sym e

@@ -8,6 +8,7 @@ use crate::parts::Member;
 use crate::parts::MemberOrd;
 use std::cmp::Ordering;
 
+// FALSE before TRUE.
 fn compare_truths(a: bool, b: bool) -> Ordering
     ensures { λ r. ⌜ r ≡ key-order (truth-key a) (truth-key b) ⌝ }
 {

@@ -1,5 +1,6 @@
 // Names: which bytes are one, and their order.
 ghost use mathlib.Core.Path.{_≡_};
+ghost use Rattle.values.specs.Values.{same-name};
 ghost use Rattle.values.specs.Limits.{name-byte, name-bytes, dots, fit};
 ghost use Rattle.values.specs.Order.{order as byte-order};
 use std::cmp::Ordering;
@@ -39,6 +40,13 @@ pub fn is_name(bytes: &[u8]) -> bool
     ensures { λ r. ⌜ r ≡ fit (now (bytes .entry)) ⌝ }
 {
     bytes.len() >= 1 && bytes.len() <= 32 && !is_dots(bytes) && all_name_bytes(bytes)
+}
+
+// Whether two names, or any two runs of bytes, are the same.
+pub fn same(a: &[u8], b: &[u8]) -> bool
+    ensures { λ r. ⌜ r ≡ same-name (now (a .entry)) (now (b .entry)) ⌝ }
+{
+    a == b
 }
 
 // Byte order, a shorter name before its extensions.

@@ -34,7 +34,7 @@ impl Table {
         members <= MAX_MEMBERS - self.members.len()
     }
 
-    // Appends a text that there is room for, and puts its number into the index.
+    // Appends a text that there is room for, and puts its number into the index. The memory for both is there.
     pub(crate) fn push_text(&mut self, place: usize, text: &[u8]) -> Number
         requires few { ⌜ vec-len (now self .nodes) < 2048 ⌝ }
         requires room { ⌜ vec-len (now self .bytes) + length (now text) ≤ 32768 ⌝ }
@@ -54,7 +54,7 @@ impl Table {
         number
     }
 
-    // Appends a binding that there is room for, and puts its number into the index.
+    // Appends a binding that there is room for, and puts its number into the index. The memory for both is there.
     pub(crate) fn push_binding(&mut self, place: usize, members: &[Member], height: u8) -> Number
         requires few { ⌜ vec-len (now self .nodes) < 2048 ⌝ }
         requires room { ⌜ vec-len (now self .members) + length (now members) ≤ 4096 ⌝ }

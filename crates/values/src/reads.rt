@@ -4,8 +4,8 @@ ghost use mathlib.Core.Bool.{true};
 ghost use Prim.Native.Nat.{_+_, _<_, _≤_};
 ghost use Rattle.std.specs.Of.Vec.{vec-items, vec-len};
 ghost use Rattle.std.specs.declared.option.Option.the-variants.{Some};
-ghost use Rattle.values.specs.Limits.{height as value-height};
 ghost use Rattle.values.specs.Values.{member as member-of};
+ghost use Rattle.values.specs.Limits.{height as value-height};
 ghost use Rattle.values.specs.Table.{under, known, members-of, number-of, content-value, known-content};
 ghost use Rattle.values.specs.Nodes.{part};
 ghost use Rattle.values.specs.Index.{content-key};
@@ -18,6 +18,7 @@ use crate::parts::Number;
 use crate::store::Table;
 
 impl Table {
+    // The bytes of a stretch.
     fn text_in(&self, s: Span) -> &[u8]
         requires { ⌜ s .start + s .len ≤ vec-len (now self .bytes) ⌝ }
         ensures { λ r. ⌜ now r ≡ part (vec-items (now (self .entry) .bytes)) s ⌝ }
@@ -27,6 +28,7 @@ impl Table {
         &self.bytes[start..end]
     }
 
+    // The members of a stretch.
     fn members_in(&self, s: Span) -> &[Member]
         requires { ⌜ s .start + s .len ≤ vec-len (now self .members) ⌝ }
         ensures { λ r. ⌜ now r ≡ part (vec-items (now (self .entry) .members)) s ⌝ }

@@ -1,0 +1,14 @@
+// What a command asks for.
+
+// A command, with the name of the file that it is about.
+#[derive(Clone, Copy)]
+pub enum Command<'a> {
+    // An empty line or a remark: nothing is asked.
+    Nothing,
+    // Check a tree file and list its value.
+    Tree(&'a [u8]),
+    // Tell the commands.
+    Help,
+    // No such command.
+    Unknown,
+}
