@@ -179,7 +179,7 @@ pub record Cut-out (prefix bytes : List ℕ) (levels : ℕ) (n : Name) (v : Valu
   pub within : length prefix + r < length bytes
   pub name : take (length prefix + r - length prefix) (drop (length prefix) bytes) ≡ n
   pub short : length n ≤ 32
-  pub placed : Placed (take (length prefix + r - 0) bytes) bytes levels v after
+  pub placed : Placed (take (length prefix + r) bytes) bytes levels v after
 
 pub cut-out : (prefix bytes : List ℕ) (levels : ℕ) (n : Name) (v : Value) (after : List ℕ) (r : ℕ) → Single prefix bytes levels n v after → r ≡ length (front-name (take (length bytes - length prefix) (drop (length prefix) bytes))) → Cut-out prefix bytes levels n v after r
 cut-out prefix bytes levels n v after r s k =
@@ -195,7 +195,7 @@ cut-out prefix bytes levels n v after r s k =
       within = omega arith;
       name = ap (take (length prefix + r - length prefix)) behind ∙ take-at n tail (length prefix + r - length prefix) (omega arith);
       short = fit-short n (s .fits);
-      placed = subst (λ p. Placed p bytes levels v after) (sym (ap (take (length prefix + r - 0)) whole ∙ take-at (prefix ++ n) tail (length prefix + r - 0) (omega arith))) (s .placed);
+      placed = subst (λ p. Placed p bytes levels v after) (sym (ap (take (length prefix + r)) whole ∙ take-at (prefix ++ n) tail (length prefix + r) (omega arith))) (s .placed);
     }
 
 -- the byte behind a value's path
@@ -214,7 +214,7 @@ behind-prefix prefix bytes levels n v after s =
 pub record Deeper (p bytes : List ℕ) (levels : ℕ) (v : Value) (after : List ℕ) : Type 0 where
   pub below : Members
   pub is : v ≡ binding below
-  pub level : Level (take (length p + 1 - 0) bytes) bytes (levels - 1) below after
+  pub level : Level (take (length p + 1) bytes) bytes (levels - 1) below after
 
 pub at-slash : (p bytes : List ℕ) (levels : ℕ) (v : Value) (after : List ℕ) → Placed p bytes levels v after → getD bytes (length p) 0 ≡ 47 → Deeper p bytes levels v after
 at-slash p bytes levels v after h k = go (shape p v)
@@ -227,7 +227,7 @@ at-slash p bytes levels v after h k = go (shape p v)
     go (members n w ms e t f) =
         let there : bytes ≡ (p ++ 47 ∷ []) ++ (t ++ after) = h .lines ∙ ap (λ b. b ++ after) f ∙ slash-rest p t after in
         let long = length-append p (47 ∷ []) in
-        let front : take (length p + 1 - 0) bytes ≡ p ++ 47 ∷ [] = ap (take (length p + 1 - 0)) there ∙ take-at (p ++ 47 ∷ []) (t ++ after) (length p + 1 - 0) (omega arith) in
+        let front : take (length p + 1) bytes ≡ p ++ 47 ∷ [] = ap (take (length p + 1)) there ∙ take-at (p ++ 47 ∷ []) (t ++ after) (length p + 1) (omega arith) in
         record { below = cons n w ms; is = e; level = subst (λ q. Level q bytes (levels - 1) (cons n w ms) after) (sym front) (the-level p bytes levels n w ms v after e h) }
 
 pub record Ended (p bytes : List ℕ) (v : Value) (after : List ℕ) : Type 0 where

@@ -2,7 +2,7 @@
 use mathlib.Core.Path.{_≡_, refl, sym, ap, subst, _∙_}
 use mathlib.Core.List.{List, [], _∷_, _++_, append-assoc, append-nil}
 use mathlib.Core.Option.{none, some}
-use Prim.Native.Nat.{ℕ, _+_, _-_, _≤_, _<_}
+use Prim.Native.Nat.{ℕ, _+_, _≤_, _<_}
 use native.Mathlib.Omega.{arith}
 use lib.ListN.{length, take}
 use Rattle.std.proofs.shelf.Lists.{length-append, length-take-le}
@@ -108,8 +108,8 @@ pub record Done (T₀ : Table) (left : List ℕ) (T : Table) (l : List Member) (
   pub entered : enter-all (member-parts ms) T₀ ≡ some T
   pub grown : Extends T₀ T
 
-entire : (T₀ : Table) (prefix left : List ℕ) (levels : ℕ) (T : Table) (l : List Member) (ms : Members) (after : List ℕ) → (Goes-on prefix left → ⊥) → Turn T₀ prefix left levels T l ms after → Done T₀ left T l ms after
-entire T₀ prefix left levels T l ms after g t = go (t .to-come) (t .lines) (t .entered) (t .stands)
+pub done : (T₀ : Table) (prefix left : List ℕ) (levels : ℕ) (T : Table) (l : List Member) (ms : Members) (after : List ℕ) → (Goes-on prefix left → ⊥) → Turn T₀ prefix left levels T l ms after → Done T₀ left T l ms after
+done T₀ prefix left levels T l ms after g t = go (t .to-come) (t .lines) (t .entered) (t .stands)
   where
     go : (ns : Members) → left ≡ member-bytes prefix ns ++ after → enter-all (member-parts ms) T₀ ≡ enter-all (member-parts ns) T → ((T′ : Table) (k : List Member) → Extends T T′ → Stands T′ k ns → Stands T′ (l ++ k) ms) → Done T₀ left T l ms after
     go nil e f k = record {
@@ -119,13 +119,6 @@ entire T₀ prefix left levels T l ms after g t = go (t .to-come) (t .lines) (t 
       grown = t .grown;
     }
     go (cons n v ns) e f k = absurd (g (goes-on prefix left n v ns after e))
-
--- the code takes the numbers from 0 on
-pub done : (T₀ : Table) (prefix left : List ℕ) (levels : ℕ) (T : Table) (members : List Member) (count : ℕ) (ms : Members) (after : List ℕ) → (Goes-on prefix left → ⊥) → Turn T₀ prefix left levels T (take count members) ms after → Done T₀ left T (take (count - 0) members) ms after
-done T₀ prefix left levels T members count ms after g t = subst (λ n. Done T₀ left T (take n members) ms after) same (entire T₀ prefix left levels T (take count members) ms after g t)
-  where
-    same : count ≡ count - 0
-    same = omega arith
 
 pub ready : (prefix bytes left : List ℕ) (levels : ℕ) (T₀ T : Table) (l : List Member) (ms : Members) (after : List ℕ) → Level prefix bytes levels ms after → Done T₀ left T l ms after → Ready T l ms
 ready prefix bytes left levels T₀ T l ms after h d = record {

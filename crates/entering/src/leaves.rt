@@ -48,7 +48,7 @@ fn enter_content(table: &mut Table, content: &[u8]) -> Result<Number, Full>
 {
     let mut text = [0; MAX_TEXT];
     let len = unescape(content, &mut text);
-    enter_text(table, &text[0..len])
+    enter_text(table, &text[..len])
 }
 
 // Enters a leaf: a text, a truth value, or the empty binding.
@@ -57,7 +57,7 @@ fn enter_leaf(table: &mut Table, leaf: &[u8]) -> Result<Number, Full>
     ensures { λ r. ⌜ Enters-leaf (now (leaf .entry)) (values (now (table .entry))) r (values (now (table .exit))) ⌝ }
 {
     match leaf[0] {
-        b't' => enter_content(table, &leaf[2..leaf.len()]),
+        b't' => enter_content(table, &leaf[2..]),
         b'b' => Ok(table.truth(leaf[2] == b'T')),
         b'e' => enter_binding(table, &[]),
         _ => unreachable(),

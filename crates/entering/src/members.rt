@@ -22,8 +22,8 @@ const MAX_MEMBERS: usize = 64;
 fn name_len(bytes: &[u8]) -> usize
     ensures { λ r. ⌜ r ≡ length (front-name (now (bytes .entry))) ⌝ }
 {
-    for i in 0..bytes.len() {
-        if !is_name_byte(bytes[i]) {
+    for (i, b) in bytes.iter().enumerate() {
+        if !is_name_byte(*b) {
             return i;
         }
     }
@@ -49,9 +49,9 @@ fn enter_value<'a>(
 {
     let end = path.len();
     if bytes[end] == b'/' {
-        return enter_members(table, &bytes[0..end + 1], bytes, levels - 1);
+        return enter_members(table, &bytes[..end + 1], bytes, levels - 1);
     }
-    enter_line(table, &bytes[end + 1..bytes.len()])
+    enter_line(table, &bytes[end + 1..])
 }
 
 // Enters the first member under a prefix: its name, then its value.
@@ -65,9 +65,9 @@ fn enter_member<'a>(
     ensures { λ r. ⌜ Enters-member (now (prefix .entry)) (now (bytes .entry)) levels (values (now (table .entry))) r (values (now (table .exit))) ⌝ }
 {
     let start = prefix.len();
-    let end = start + name_len(&bytes[start..bytes.len()]);
+    let end = start + name_len(&bytes[start..]);
     let name = enter_text(table, &bytes[start..end])?;
-    let entered = enter_value(table, &bytes[0..end], bytes, levels)?;
+    let entered = enter_value(table, &bytes[..end], bytes, levels)?;
     let member = Member {
         name,
         value: entered.number,
@@ -97,6 +97,6 @@ pub(crate) fn enter_members<'a>(
         count += 1;
         left = entered.rest;
     }
-    let number = enter_binding(table, &members[0..count])?;
+    let number = enter_binding(table, &members[..count])?;
     Ok(EnteredValue { number, rest: left })
 }

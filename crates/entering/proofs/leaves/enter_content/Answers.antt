@@ -1,5 +1,3 @@
-use mathlib.Core.Path.{_≡_, ap, _∙_}
-use Prim.Native.Nat.{_-_}
 use native.Mathlib.Omega.{arith}
 use lib.ListN.{take}
 use Rattle.std.proofs.shelf.Lists.{length-take}
@@ -8,11 +6,9 @@ use Rattle.entering.proofs.Endings.{text-is, same-text}
 use Rattle.entering.proofs.leaves.enter_content.Needs as need
 
 pub enter-text-requires : need.enter-text-requires
-enter-text-requires c κs = let h = length-take (c .unescape-len .result - 0) (c .unescape-len .last .text) in omega (arith, c .unescape-len .kept .text, c .unescape-len .ensures .within)
+enter-text-requires c κs = let h = length-take (c .unescape-len .result) (c .unescape-len .last .text) in omega (arith, c .unescape-len .kept .text, c .unescape-len .ensures .within)
 
 pub returns : need.returns
 returns c = λ s e.
-    let l = c .unescape-len .last .text in
-    let same : c .unescape-len .result - 0 ≡ c .unescape-len .result = omega arith in
-    let is = ap (λ n. take n l) same ∙ text-is (take (c .unescape-len .result) l) s (c .args .content .now) (c .unescape-len .ensures .written) e in
-    same-text _ s (values (c .args .table .now)) (c .enter-text .result) (values (c .enter-text .last .table)) is (c .enter-text .ensures)
+    let l = take (c .unescape-len .result) (c .unescape-len .last .text) in
+    same-text l s (values (c .args .table .now)) (c .enter-text .result) (values (c .enter-text .last .table)) (text-is l s (c .args .content .now) (c .unescape-len .ensures .written) e) (c .enter-text .ensures)

@@ -1,5 +1,5 @@
 use mathlib.Core.Path.{refl, sym, ap, subst}
-use Prim.Native.Nat.{_-_, _<_}
+use Prim.Native.Nat.{_<_}
 use native.Mathlib.Omega.{arith}
 use lib.ListN.{length, take}
 use borrow.Author.Needs.{needs}
@@ -111,19 +111,19 @@ enter-members-loop-table-again t c =
 
 pub enter-members-enter-binding-requires : need.enter-members-enter-binding-requires
 enter-members-enter-binding-requires t c κs =
-    let d = done (values (c .args .table .now)) (c .args .prefix .now) (c .loop-table .left .now) (c .args .levels) (values (c .loop-table .table)) (c .loop-table .members) (c .loop-table .count) (c .pre .0) (c .pre .1) (λ g. no (sym (c .loop-table-test .ensures tt .1 g))) (c .loop-table .inv .2 (c .pre .0) (c .pre .1) (c .pre .2)) in
-    (c .pre .0, ready (c .args .prefix .now) (c .args .bytes .now) (c .loop-table .left .now) (c .args .levels) (values (c .args .table .now)) (values (c .loop-table .table)) (take (c .loop-table .count - 0) (c .loop-table .members)) (c .pre .0) (c .pre .1) (c .pre .2) d)
+    let d = done (values (c .args .table .now)) (c .args .prefix .now) (c .loop-table .left .now) (c .args .levels) (values (c .loop-table .table)) (take (c .loop-table .count) (c .loop-table .members)) (c .pre .0) (c .pre .1) (λ g. no (sym (c .loop-table-test .ensures tt .1 g))) (c .loop-table .inv .2 (c .pre .0) (c .pre .1) (c .pre .2)) in
+    (c .pre .0, ready (c .args .prefix .now) (c .args .bytes .now) (c .loop-table .left .now) (c .args .levels) (values (c .args .table .now)) (values (c .loop-table .table)) (take (c .loop-table .count) (c .loop-table .members)) (c .pre .0) (c .pre .1) (c .pre .2) d)
 
 pub enter-members-returns-in-Break-number : need.enter-members-returns-in-Break-number
 enter-members-returns-in-Break-number t c = λ ms after h.
-    let d = done (values (c .args .table .now)) (c .args .prefix .now) (c .loop-table .left .now) (c .args .levels) (values (c .loop-table .table)) (c .loop-table .members) (c .loop-table .count) ms after (λ g. no (sym (c .loop-table-test .ensures tt .1 g))) (c .loop-table .inv .2 ms after h) in
+    let d = done (values (c .args .table .now)) (c .args .prefix .now) (c .loop-table .left .now) (c .args .levels) (values (c .loop-table .table)) (take (c .loop-table .count) (c .loop-table .members)) ms after (λ g. no (sym (c .loop-table-test .ensures tt .1 g))) (c .loop-table .inv .2 ms after h) in
     let p = err-from-errBy (c .from-residual-in-Break-number .result) (c .from-residual-in-Break-number .ensures .1) in
-    rw (p .1) (unbound (values (c .args .table .now)) (values (c .loop-table .table)) (values (c .enter-binding .last .table)) (c .loop-table .left .now) (take (c .loop-table .count - 0) (c .loop-table .members)) ms after (c .in-Break-number .field-0 .0) d (c .in-Break-number .ensures tt))
+    rw (p .1) (unbound (values (c .args .table .now)) (values (c .loop-table .table)) (values (c .enter-binding .last .table)) (c .loop-table .left .now) (take (c .loop-table .count) (c .loop-table .members)) ms after (c .in-Break-number .field-0 .0) d (c .in-Break-number .ensures tt))
 
 pub enter-members-returns : need.enter-members-returns
 enter-members-returns t c = λ ms after h.
-    let d = done (values (c .args .table .now)) (c .args .prefix .now) (c .loop-table .left .now) (c .args .levels) (values (c .loop-table .table)) (c .loop-table .members) (c .loop-table .count) ms after (λ g. no (sym (c .loop-table-test .ensures tt .1 g))) (c .loop-table .inv .2 ms after h) in
-    bound (values (c .args .table .now)) (values (c .loop-table .table)) (values (c .enter-binding .last .table)) (c .loop-table .left .now) (take (c .loop-table .count - 0) (c .loop-table .members)) ms after (c .in-Continue-number .number) d (c .in-Continue-number .ensures tt)
+    let d = done (values (c .args .table .now)) (c .args .prefix .now) (c .loop-table .left .now) (c .args .levels) (values (c .loop-table .table)) (take (c .loop-table .count) (c .loop-table .members)) ms after (λ g. no (sym (c .loop-table-test .ensures tt .1 g))) (c .loop-table .inv .2 ms after h) in
+    bound (values (c .args .table .now)) (values (c .loop-table .table)) (values (c .enter-binding .last .table)) (c .loop-table .left .now) (take (c .loop-table .count) (c .loop-table .members)) ms after (c .in-Continue-number .number) d (c .in-Continue-number .ensures tt)
 
 -- a value: a slash or a tab stands behind its path
 pub enter-value-index-bytes-end : need.enter-value-index-bytes-end
