@@ -6,3 +6,4 @@ pub mod Nodes
 pub mod Index
 pub mod Memory
 pub mod Order
+pub mod Examples

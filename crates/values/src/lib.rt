@@ -2,6 +2,7 @@
 mod checks;
 mod contents;
 mod cut;
+mod examples;
 mod find;
 mod names;
 mod nodes;
@@ -11,6 +12,7 @@ mod reads;
 mod store;
 mod table;
 
+pub use crate::examples::examples_hold;
 pub use crate::names::is_name;
 pub use crate::names::is_name_byte;
 pub use crate::names::order;
