@@ -58,7 +58,7 @@ fn answer_tree(rt: &LibcRuntime, checker: &mut Checker, file: &[u8]) -> io::Resu
 }
 
 // Echoes a command and answers it. An empty line and a remark have no words, and are passed over.
-pub fn answer(rt: &LibcRuntime, checker: &mut Checker, words: &[&[u8]]) -> io::Result<()> {
+pub(crate) fn answer(rt: &LibcRuntime, checker: &mut Checker, words: &[&[u8]]) -> io::Result<()> {
     if words.is_empty() {
         return Ok(());
     }

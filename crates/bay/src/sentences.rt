@@ -1,10 +1,11 @@
 // What the numbers of refusals mean, in plain words.
 use trees::Refusal;
 
-pub const TABLE_FULL: &str = "the value table has no room for all names and values of the tree";
+pub(crate) const TABLE_FULL: &str =
+    "the value table has no room for all names and values of the tree";
 
 // What a refusal of a tree file means.
-pub fn meaning(refusal: Refusal) -> &'static str {
+pub(crate) fn meaning(refusal: Refusal) -> &'static str {
     match refusal {
         Refusal::TooLong => "the file is longer than 32,768 bytes",
         Refusal::Malformed => "this is no line of a tree file, or a name in it is no name",

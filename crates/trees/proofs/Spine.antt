@@ -12,7 +12,7 @@ use Rattle.values.specs.Values.{Name, Value, text, truth, binding, Members, nil
 use Rattle.values.specs.Limits.{many, height, heights, small, all-small}
 use Rattle.trees.specs.Lines.{Leaf, text-leaf, truth-leaf, empty-leaf, leaf-value, Read, ok, bad, after, chain, at-end, put, into, within}
 use Rattle.trees.specs.Paths.{shared}
-use Rattle.trees.specs.Progress.{if-none, last-path, value-path, deeper-counts, value-counts, counts, place-behind, leaf-height, leaf-small, ones, bumped}
+use Rattle.trees.specs.Progress.{last-path, value-path, deeper-counts, value-counts, counts, place-behind, leaf-height, leaf-small, ones, bumped}
 use Rattle.values.proofs.Sameness.{name-test}
 use Rattle.trees.proofs.Splits.{no, both, both-hold}
 use Rattle.trees.proofs.Order.{shared-end}
@@ -59,7 +59,7 @@ pub record Grown (ms : Members) (n : Name) (p : List Name) (c : Leaf) (d : ℕ) 
   pub counted : counts ws ≡ bumped d (counts ms) (n ∷ p)
   pub high : heights ws ≡ max (heights ms) (length p + leaf-height c)
   pub few : all-small ms ≡ true → all-small ws ≡ (leaf-small c && deep d (counts ms))
-  pub some-there : _≡_ {A = ℕ} (if-none ws 0 1) 1
+  pub some-there : _≡_ {A = ℕ} (at-end ws 0 1) 1
 
 abbrev pub Outcome : Members → Name → List Name → Leaf → Option ℕ → Type 0
 Outcome ms n p c none = put ms n p c ≡ bad 9
@@ -72,7 +72,7 @@ record Grown-value (v : Value) (p : List Name) (c : Leaf) (d : ℕ) (ws : Member
   counted : counts ws ≡ bumped d (value-counts v) p
   high : suc (heights ws) ≡ max (height v) (length p + leaf-height c)
   few : small v ≡ true → small (binding ws) ≡ (leaf-small c && leb (suc (getD (value-counts v) d 0)) 64)
-  some-there : _≡_ {A = ℕ} (if-none ws 0 1) 1
+  some-there : _≡_ {A = ℕ} (at-end ws 0 1) 1
 
 abbrev Into : Value → List Name → Leaf → Option ℕ → Type 0
 Into v p c none = into v p c ≡ bad 9
@@ -91,7 +91,7 @@ first-line n p c =
       some-there = refl;
     }
 
-there : (ws : Members) → _≡_ {A = ℕ} (if-none ws 0 1) 1 → {A : Type 0} (a b : A) → if-none ws a b ≡ b
+there : (ws : Members) → _≡_ {A = ℕ} (at-end ws 0 1) 1 → {A : Type 0} (a b : A) → at-end ws a b ≡ b
 there nil e a b = absurd (omega arith)
 there (cons n v ws) e a b = refl
 

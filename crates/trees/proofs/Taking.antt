@@ -15,11 +15,11 @@ use Rattle.std.specs.Options.{Cases}
 use denote.Ref.{RefT}
 use Rattle.values.specs.Values.{Name, Value, text, truth, binding, Members, nil, cons, same-name, before, mapped}
 use Rattle.values.specs.Limits.{many, height, heights, small, all-small}
-use Rattle.trees.specs.Lines.{Leaf, Line, line, Read, ok, bad, after, put, within, step}
+use Rattle.trees.specs.Lines.{at-end, Leaf, Line, line, Read, ok, bad, after, put, within, step}
 use Rattle.trees.specs.Files.{split}
 use Rattle.trees.specs.Contents.{answer}
 use Rattle.trees.specs.Paths.{shared}
-use Rattle.trees.specs.Progress.{if-none, last-path, value-path, deeper-counts, value-counts, counts, place-behind, leaf-height, leaf-small, in-limits, ones, bumped}
+use Rattle.trees.specs.Progress.{last-path, value-path, deeper-counts, value-counts, counts, place-behind, leaf-height, leaf-small, in-limits, ones, bumped}
 use Rattle.trees.specs.Laws.{Lines-ascend}
 use Rattle.trees.specs.Following.{placed, Last, Follows}
 use Rattle.trees.specs.declared.progress.Progress.{Progress}
@@ -121,7 +121,7 @@ disordered ms kept n q c f e = go (place-behind ms (n ∷ q)) (sym (same-place m
     go (some d) e h = let z : _≡_ {A = ℕ} 0 1 = cc in absurd (omega arith)
 
 -- in order: what is made, and by which tests it is within the limits
-in-order : (ms : Members) (kept : Progress) (n : Name) (q : List Name) (c : Leaf) (d : ℕ) → Follows ms kept → placed (kept .last) (n ∷ q) ≡ some d → (ws : Members) × (put ms n q c ≡ ok ws) × (last-path ws ≡ n ∷ q) × (counts ws ≡ take d (kept .counts) ++ (getD (kept .counts) d 0 + 1) ∷ replicate (length (n ∷ q) - (d + 1)) 1) × (length (counts ws) ≡ length (n ∷ q)) × (within ws ≡ in-limits (length (n ∷ q)) c (getD (kept .counts) d 0)) × (_≡_ {A = ℕ} (if-none ws 0 1) 1)
+in-order : (ms : Members) (kept : Progress) (n : Name) (q : List Name) (c : Leaf) (d : ℕ) → Follows ms kept → placed (kept .last) (n ∷ q) ≡ some d → (ws : Members) × (put ms n q c ≡ ok ws) × (last-path ws ≡ n ∷ q) × (counts ws ≡ take d (kept .counts) ++ (getD (kept .counts) d 0 + 1) ∷ replicate (length (n ∷ q) - (d + 1)) 1) × (length (counts ws) ≡ length (n ∷ q)) × (within ws ≡ in-limits (length (n ∷ q)) c (getD (kept .counts) d 0)) × (_≡_ {A = ℕ} (at-end ws 0 1) 1)
 in-order ms kept n q c d f e =
     let at : place-behind ms (n ∷ q) ≡ some d = sym (same-place ms (kept .last) (n ∷ q) (f .last)) ∙ e in
     let b = place-bound ms n q d at in

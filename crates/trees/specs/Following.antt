@@ -11,10 +11,10 @@ use Rattle.std.specs.declared.result.Result.{Result}
 use Rattle.std.specs.declared.result.Result.the-variants.{Ok, Err}
 use denote.Ref.{RefT}
 use Rattle.values.specs.Values.{Name, Members, nil}
-use Rattle.trees.specs.Lines.{Line, Read, ok, bad, step, within}
+use Rattle.trees.specs.Lines.{at-end, Line, Read, ok, bad, step, within}
 use Rattle.trees.specs.Files.{split, line-of}
 use Rattle.trees.specs.Paths.{shared}
-use Rattle.trees.specs.Progress.{if-none, last-path, counts}
+use Rattle.trees.specs.Progress.{last-path, counts}
 use Rattle.trees.specs.Numbers.{number}
 use Rattle.trees.specs.declared.answers.Refusal.{Refusal}
 use Rattle.trees.specs.declared.progress.Progress.{Progress}
@@ -27,7 +27,7 @@ placed (Some l) p = shared (split 47 (l .now)) p
 -- the last path is that of the members read so far
 abbrev pub Last : Members → Answer (RefT (List ℕ)) → Type 0
 Last ms None = ms ≡ nil
-Last ms (Some l) = (_≡_ {A = ℕ} (if-none ms 0 1) 1) × (split 47 (l .now) ≡ last-path ms)
+Last ms (Some l) = (_≡_ {A = ℕ} (at-end ms 0 1) 1) × (split 47 (l .now) ≡ last-path ms)
 
 -- what is kept of the members read so far
 pub record Follows (ms : Members) (kept : Progress) : Type 0 where

@@ -14,9 +14,11 @@ pub data Leaf : Type 0 where
   truth-leaf : Bool → Leaf
   empty-leaf : Leaf
 
+-- a line: a path, and what stands at its end
 pub data Line : Type 0 where
   line : List Name → Leaf → Line
 
+-- the value that a leaf is
 abbrev pub leaf-value : Leaf → Value
 leaf-value (text-leaf s) = text s
 leaf-value (truth-leaf b) = truth b
@@ -26,7 +28,7 @@ leaf-value empty-leaf = binding nil
 abbrev pub below : Name → Line → Line
 below n (line p c) = line (n ∷ p) c
 
--- the lines of a value, of members
+-- the lines of a value, the empty binding being a line of its own; and of members, of which there may be none
 abbrev mutual
   pub lines : Value → List Line
   lines (text s) = line [] (text-leaf s) ∷ []
@@ -41,11 +43,12 @@ abbrev mutual
   lines-of nil = []
   lines-of (cons n v ms) = map (below n) (lines v) ++ lines-of ms
 
--- a reading: the members read so far, or a refusal
+-- a reading: the members read so far, or a refusal by its number
 pub data Read : Type 0 where
   ok : Members → Read
   bad : ℕ → Read
 
+-- go on with what was read
 abbrev pub after : Read → (Members → Read) → Read
 after (ok ms) k = k ms
 after (bad e) k = bad e
@@ -55,7 +58,8 @@ abbrev pub chain : List Name → Leaf → Value
 chain [] c = leaf-value c
 chain (n ∷ p) c = binding (cons n (chain p c) nil)
 
-abbrev pub at-end : Members → Read → Read → Read
+-- one thing where there are no members, another where there are some
+abbrev pub at-end : {A : Type 0} → Members → A → A → A
 at-end nil a b = a
 at-end (cons n v ms) a b = b
 
@@ -78,11 +82,12 @@ abbrev mutual
 abbrev pub within : Members → Bool
 within ms = leb (height (binding ms)) 16 && small (binding ms)
 
--- one line
+-- one line behind those read so far: out of order it is refused by 9, past a limit by 10
 abbrev pub step : Line → Members → Read
 step (line [] c) ms = bad 9
 step (line (n ∷ p) c) ms = after (put ms n p c) (λ ws. cond (within ws) (ok ws) (bad 10))
 
+-- all lines, one behind the other
 abbrev pub fill : Members → List Line → Read
 fill ms [] = ok ms
 fill ms (l ∷ ls) = after (step l ms) (λ ws. fill ws ls)

@@ -8,19 +8,14 @@ use lib.Dec.{leb}
 use lib.ListN.{length, take}
 use Rattle.values.specs.Values.{Name, Value, text, truth, binding, Members, nil, cons}
 use Rattle.values.specs.Limits.{many}
-use Rattle.trees.specs.Lines.{Leaf, text-leaf, truth-leaf, empty-leaf}
+use Rattle.trees.specs.Lines.{at-end, Leaf, text-leaf, truth-leaf, empty-leaf}
 use Rattle.trees.specs.Paths.{shared}
-
--- one thing of no members, another of some
-abbrev pub if-none : {A : Type 0} → Members → A → A → A
-if-none nil a b = a
-if-none (cons n v ms) a b = b
 
 -- the path of the last line
 abbrev mutual
   pub last-path : Members → List Name
   last-path nil = []
-  last-path (cons n v ms) = if-none ms (n ∷ value-path v) (last-path ms)
+  last-path (cons n v ms) = at-end ms (n ∷ value-path v) (last-path ms)
 
   pub value-path : Value → List Name
   value-path (text s) = []
@@ -31,12 +26,12 @@ abbrev mutual
 abbrev mutual
   pub deeper-counts : Members → List ℕ
   deeper-counts nil = []
-  deeper-counts (cons n v ms) = if-none ms (value-counts v) (deeper-counts ms)
+  deeper-counts (cons n v ms) = at-end ms (value-counts v) (deeper-counts ms)
 
   pub value-counts : Value → List ℕ
   value-counts (text s) = []
   value-counts (truth b) = []
-  value-counts (binding ms) = if-none ms [] (many ms ∷ deeper-counts ms)
+  value-counts (binding ms) = at-end ms [] (many ms ∷ deeper-counts ms)
 
 abbrev pub counts : Members → List ℕ
 counts ms = many ms ∷ deeper-counts ms
