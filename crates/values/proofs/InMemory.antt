@@ -13,7 +13,7 @@ use Rattle.std.proofs.shelf.Tests.{and-parts}
 use Rattle.std.proofs.shelf.Lists.{getD-default, getD-past, getD-read-under}
 use Rattle.values.specs.Limits.{proper, height}
 use Rattle.values.specs.Values.{Name, Value, truth, nth, same-value, before, child, and-then}
-use Rattle.values.specs.Table.{under, position, number-of}
+use Rattle.values.specs.Table.{under}
 use Rattle.values.specs.Nodes.{node-values, sound-nodes}
 use Rattle.values.specs.Index.{sound-index, node-key, all-before, all-after}
 use Rattle.values.specs.Memory.{values, key-of}
@@ -22,7 +22,7 @@ use Rattle.values.specs.declared.nodes.Span.{Span}
 use Rattle.values.specs.declared.nodes.Node.{Node}
 use Rattle.values.specs.declared.nodes.Node.the-variants.{Truth, Text, Binding}
 use Rattle.values.specs.declared.store.Table.{Table}
-use Rattle.values.proofs.Sameness.{clash, same-is, same-self, nth-under, nth-past, under-nth, position-at}
+use Rattle.values.proofs.Sameness.{clash, same-is, same-self, nth-under, nth-past, under-nth}
 use Rattle.values.proofs.Propers.{All-proper, low-from-proper}
 use Rattle.values.proofs.Indexes.{Indexed, indexed-from-test, all-below-at, up-to, from-on}
 use Rattle.values.proofs.Meanings.{Sound, sound-from-test, length-values, One-number, one-number, Fact, fact, Text-fact, text-fact, Binding-fact, binding-fact}
@@ -138,10 +138,6 @@ all-proper-of t i h = fact-of t i (Truth false) (omega (arith, length-of t)) .ri
 pub low-of : (t : Table) (i : ℕ) → i < vec-len (t .nodes) → height (under (values t) i) ≤ 16
 low-of t i h = low-from-proper (under (values t) i) (fact-of t i (Truth false) h .right)
 
--- a value's number is where it stands
-pub position-of : (t : Table) (i : ℕ) → i < vec-len (t .nodes) → position (under (values t) i) (values t) ≡ Some i
-position-of t i h = position-at (values t) i (omega (arith, length-of t)) (fact-of t i (Truth false) h .first)
-
--- the number of a child, by the value under a number
-pub child-of : (t : Table) (i : ℕ) (v : Value) (name : Name) → i < vec-len (t .nodes) → v ≡ under (values t) i → number-of (values t) (child name v) ≡ number-of (values t) (and-then (nth (values t) i) (child name))
-child-of t i v name h e = sym (ap (λ o. number-of (values t) (and-then o (child name))) (nth-of t i h ∙ ap some (sym e)))
+-- the child of a value, by the value under a number
+pub child-of : (t : Table) (i : ℕ) (v : Value) (name : Name) → i < vec-len (t .nodes) → v ≡ under (values t) i → and-then (nth (values t) i) (child name) ≡ child name v
+child-of t i v name h e = ap (λ o. and-then o (child name)) (nth-of t i h ∙ ap some (sym e))

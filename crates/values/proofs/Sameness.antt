@@ -12,7 +12,7 @@ use Rattle.std.specs.declared.option.Option.the-variants.{Some}
 use Rattle.std.proofs.shelf.Equals.{compares-decides}
 use Rattle.std.proofs.shelf.Tests.{and-parts, and-from}
 use Rattle.values.specs.Values.{Name, Value, text, truth, binding, Members, nil, cons, same-name, same-value, same-members, nth}
-use Rattle.values.specs.Table.{holds, under, position, next}
+use Rattle.values.specs.Table.{holds, under}
 
 pub name-test : (s t : Name) → Decides (same-name s t) (s ≡ t)
 name-test = compares-decides same-name (search needs)
@@ -101,16 +101,6 @@ holds-number (w ∷ T) v e = go (same-value v w) refl e (holds-number T v)
     go : (b : Bool) → same-value v w ≡ b → cond b true (holds v T) ≡ true → (holds v T ≡ true → (i : ℕ) × (i < length T) × (under T i ≡ v)) → (i : ℕ) × (i < length (w ∷ T)) × (under (w ∷ T) i ≡ v)
     go true s h r = (0, omega arith, sym (same-is v w s))
     go false s h r = let p = r h in (suc (p .0), omega arith, p .2)
-
--- a value that does not stand before its number has that number
-pub position-at : (T : List Value) (i : ℕ) → i < length T → holds (under T i) (take i T) ≡ false → position (under T i) T ≡ Some i
-position-at [] i h e = absurd (omega arith)
-position-at (w ∷ T) zero h e = ap (λ b. cond b (Some 0) (next (position w T))) (same-self w)
-position-at (w ∷ T) (suc i) h e = go (same-value (under T i) w) e (position-at T i (omega arith))
-  where
-    go : (b : Bool) → cond b true (holds (under T i) (take i T)) ≡ false → (holds (under T i) (take i T) ≡ false → position (under T i) T ≡ Some i) → cond b (Some 0) (next (position (under T i) T)) ≡ Some (suc i)
-    go true f r = clash f
-    go false f r = ap next (r f) ∙ ap Some (omega arith)
 
 pub one-more : (T : List Value) (v : Value) → nth (T ++ v ∷ []) (length T) ≡ some v
 one-more [] v = refl

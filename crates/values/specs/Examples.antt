@@ -6,10 +6,9 @@ use mathlib.Core.Option.{Option, none, some}
 use Prim.Native.Nat.{ℕ, zero, suc}
 use lib.Chars.{codes}
 use lib.ListN.{replicate}
-use Rattle.std.specs.declared.option.Option.the-variants.{Some, None}
 use Rattle.values.specs.Values.{Value, text, truth, binding, Members, nil, cons, kind, texts, bindings, before, look}
 use Rattle.values.specs.Limits.{fit, height, proper}
-use Rattle.values.specs.Table.{Table, position, entered}
+use Rattle.values.specs.Table.{Table, entered}
 
 -- a load cell with its gain, in a head with its name
 abbrev cell : Value
@@ -49,6 +48,5 @@ pub record Examples : Type 0 where
   pub disordered : proper (binding (cons (codes "b") (truth true) (cons (codes "a") (truth true) nil))) ≡ false
   pub twice : proper (binding (cons (codes "a") (truth true) (cons (codes "a") (truth true) nil))) ≡ false
   -- a value is entered once, behind the others
-  pub numbered : (position (truth false) truths ≡ Some 1) × (position head truths ≡ None)
   pub entered-new : entered cell truths ≡ some (truth true ∷ truth false ∷ cell ∷ [])
   pub entered-again : entered cell (truth true ∷ truth false ∷ cell ∷ []) ≡ some (truth true ∷ truth false ∷ cell ∷ [])

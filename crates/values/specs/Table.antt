@@ -3,7 +3,7 @@ use mathlib.Core.Path.{_≡_}
 use mathlib.Core.List.{List, [], _∷_, _++_}
 use mathlib.Core.Bool.{Bool, true, false, cond, not, _&&_}
 use mathlib.Core.Option.{Option, none, some}
-use Prim.Native.Nat.{ℕ, _+_}
+use Prim.Native.Nat.{ℕ, _+_, _<_}
 use lib.Dec.{leb, ltb}
 use lib.ListN.{length, getD}
 use Rattle.std.specs.Orderings.{When}
@@ -30,15 +30,6 @@ holds v (w ∷ ws) = cond (same-value v w) true (holds v ws)
 abbrev pub distinct : Table → Bool
 distinct [] = true
 distinct (v ∷ vs) = not (holds v vs) && distinct vs
-
--- the number of a value: where it first stands
-abbrev pub next : Answer ℕ → Answer ℕ
-next None = None
-next (Some i) = Some (1 + i)
-
-abbrev pub position : Value → Table → Answer ℕ
-position v [] = None
-position v (w ∷ ws) = cond (same-value v w) (Some 0) (next (position v ws))
 
 -- what a value takes of each of the three budgets: values, bytes of text, members
 abbrev pub one-value : Value → ℕ
@@ -143,7 +134,7 @@ known-content T (Some (Truth b)) = true
 known-content T (Some (Text s)) = true
 known-content T (Some (Binding ms)) = known T (ms .now)
 
--- the number of what may be there
-abbrev pub number-of : Table → Option Value → Answer ℕ
-number-of T none = None
-number-of T (some v) = position v T
+-- what looking for the number of what may be there answers: its number, or that there is nothing
+abbrev pub Numbered : Table → Option Value → Answer ℕ → Type 0
+Numbered T o None = o ≡ none
+Numbered T o (Some i) = (nth T i ≡ o) × (i < length T)

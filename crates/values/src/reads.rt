@@ -6,7 +6,7 @@ ghost use Rattle.std.specs.Of.Vec.{vec-items, vec-len};
 ghost use Rattle.std.specs.declared.option.Option.the-variants.{Some};
 ghost use Rattle.values.specs.Values.{member as member-of};
 ghost use Rattle.values.specs.Limits.{height as value-height};
-ghost use Rattle.values.specs.Table.{under, known, members-of, number-of, content-value, known-content};
+ghost use Rattle.values.specs.Table.{under, known, members-of, Numbered, content-value, known-content};
 ghost use Rattle.values.specs.Nodes.{part};
 ghost use Rattle.values.specs.Index.{content-key};
 ghost use Rattle.values.specs.Memory.{values, key-of};
@@ -70,7 +70,7 @@ impl Table {
     // The number of the first of the members that has the name.
     pub(crate) fn member_in(&self, members: &[Member], name: &[u8]) -> Option<Number>
         requires { ⌜ known (values (now self)) (now members) ≡ true ⌝ }
-        ensures { λ r. ⌜ r ≡ number-of (values (now (self .entry))) (member-of (now (name .entry)) (members-of (values (now (self .entry))) (now (members .entry)))) ⌝ }
+        ensures { λ r. ⌜ Numbered (values (now (self .entry))) (member-of (now (name .entry)) (members-of (values (now (self .entry))) (now (members .entry)))) r ⌝ }
     {
         for m in members {
             if self.text(m.name) == name {

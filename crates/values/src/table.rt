@@ -8,7 +8,7 @@ ghost use lib.ListN.{length, take};
 ghost use Rattle.std.specs.Vec.{made};
 ghost use Rattle.values.specs.Values.{Value, same-value, nth, child, and-then};
 ghost use Rattle.values.specs.Limits.{proper as is-proper};
-ghost use Rattle.values.specs.Table.{Enters-text, Enters-binding, shown, known-content, spelt, under, number-of};
+ghost use Rattle.values.specs.Table.{Enters-text, Enters-binding, shown, known-content, spelt, under, Numbered};
 ghost use Rattle.values.specs.Memory.{values};
 use crate::cut::keep_below;
 use crate::nodes::Node;
@@ -98,7 +98,7 @@ impl Table {
 
     // The number of a binding's member.
     pub fn member(&self, n: Number, name: &[u8]) -> Option<Number>
-        ensures { λ r. ⌜ r ≡ number-of (values (now (self .entry))) (and-then (nth (values (now (self .entry))) n) (child (now (name .entry)))) ⌝ }
+        ensures { λ r. ⌜ Numbered (values (now (self .entry))) (and-then (nth (values (now (self .entry))) n) (child (now (name .entry)))) r ⌝ }
     {
         if n as usize >= self.nodes.len() {
             return None;

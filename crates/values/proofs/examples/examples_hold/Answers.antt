@@ -19,7 +19,6 @@ returns c = record {
   high-empty = (refl, refl);
   disordered = refl;
   twice = refl;
-  numbered = (refl, refl);
   entered-new = refl;
   entered-again = refl;
 }
