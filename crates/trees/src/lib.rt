@@ -24,4 +24,6 @@ pub use crate::escapes::next_byte;
 pub use crate::examples::examples_hold;
 pub use crate::parts::Parts;
 pub use crate::parts::cut;
+pub use crate::paths::count_names;
+pub use crate::paths::is_path;
 pub use crate::tree::Tree;

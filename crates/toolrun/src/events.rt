@@ -1,0 +1,25 @@
+// What happens next in a tool's run.
+
+// An event; the path or the product stands in front of a lent buffer, with so many bytes.
+#[derive(Clone, Copy)]
+pub enum Event {
+    // A path was fetched, and its answer is now the last one.
+    Fetched(usize),
+    // The run ends in a product.
+    Product(usize),
+    // The run ends in a failure with this code.
+    Failure(u8),
+    // A path that is none: it has not 1 to 8 names.
+    BadPath,
+    // A 17th fetch, or answers of over 4,096 bytes.
+    NoRoom,
+    // There is no such tool, or no such command.
+    Unknown,
+}
+
+// What stands at a path: only a text is told.
+#[derive(Clone, Copy)]
+pub enum Seen<'a> {
+    Nothing,
+    Text(&'a [u8]),
+}

@@ -1,0 +1,32 @@
+// Tools by name: what a tool asks for and gives, toolboxes, and the tools `cat` and `first`.
+mod answers;
+mod beside;
+mod choosing;
+mod examples;
+mod joining;
+mod pieces;
+mod replies;
+mod text;
+mod toolbox;
+mod uses;
+
+pub use crate::answers::Answers;
+pub use crate::answers::Heard;
+pub use crate::answers::Span;
+pub use crate::answers::Told;
+pub use crate::beside::SideBySide;
+pub use crate::beside::SideBySideToolbox;
+pub use crate::choosing::First;
+pub use crate::choosing::FirstToolbox;
+pub use crate::examples::examples_hold;
+pub use crate::examples::laws_hold;
+pub use crate::joining::Cat;
+pub use crate::joining::CatToolbox;
+pub use crate::replies::MAX_BYTES;
+pub use crate::replies::Reply;
+pub use crate::toolbox::Toolbox;
+pub use crate::uses::next_of_both;
+pub use crate::uses::next_of_cat;
+pub use crate::uses::next_of_first;
+pub use crate::uses::next_of_nested;
+pub use crate::uses::next_path;
