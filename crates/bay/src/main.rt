@@ -1,9 +1,12 @@
 // The program: commands from standard input, one a line, or one from the arguments.
 mod answers;
+mod bench;
 mod files;
 mod sentences;
 
+use crate::answers::Desk;
 use crate::answers::answer;
+use crate::bench::Bench;
 use checker::Checker;
 use commands::line_words;
 use std::alloc::AllocError;
@@ -33,14 +36,16 @@ fn bytes_of(heap: Global, texts: &[String]) -> Result<Vec<&[u8]>, AllocError> {
 
 fn main(rt: LibcRuntime) -> io::Result<()> {
     let heap = rt.alloc();
-    let mut checker = Checker::new(heap)?;
+    let checker = Checker::new(heap)?;
+    let bench = Bench::new(heap)?;
+    let mut desk = Desk { checker, bench };
     let given = arguments(&rt)?;
     if !given.is_empty() {
-        return answer(&rt, &mut checker, &bytes_of(heap, &given)?);
+        return answer(&rt, &mut desk, &bytes_of(heap, &given)?);
     }
     for line in BufReader::new(rt.stdin()).split(heap, b'\n') {
         let line = line?;
-        answer(&rt, &mut checker, &line_words(heap, &line)?)?;
+        answer(&rt, &mut desk, &line_words(heap, &line)?)?;
     }
     Ok(())
 }

@@ -1,7 +1,7 @@
 -- Words taken from a line part by part, and what they ask. Assumes nothing.
 use mathlib.Core.Path.{_≡_, refl, sym, ap, subst, _∙_}
 use mathlib.Core.List.{List, [], _∷_, _++_, map, append-assoc, append-nil}
-use Prim.Native.Nat.{ℕ}
+use Prim.Native.Nat.{ℕ, zero, suc, _-_}
 use native.Mathlib.Omega.{arith}
 use lib.ListN.{length, getD}
 use Rattle.std.proofs.shelf.Lists.{map-append}
@@ -11,7 +11,7 @@ use Rattle.trees.specs.declared.parts.Parts.{Parts}
 use Rattle.trees.specs.Cuts.{Cuts}
 use Rattle.trees.specs.Files.{split}
 use Rattle.trees.proofs.Order.{parts-of}
-use Rattle.commands.specs.Words.{filled, words-of, Asked, nothing, unknown, one-word, two-words, command-of}
+use Rattle.commands.specs.Words.{filled, words-of, Asked, nothing, unknown, one-word, two-words, more-words, last-of, command-of}
 
 pub none-kept : (s : List ℕ) → length s ≡ 0 → filled (s ∷ []) ≡ []
 none-kept [] h = refl
@@ -48,8 +48,16 @@ asks-two (w ∷ []) d e h = absurd (omega arith)
 asks-two (w ∷ v ∷ []) d e h = refl
 asks-two (w ∷ v ∷ u ∷ ws) d e h = absurd (omega arith)
 
-pub asks-more : (ws : List (RefT (List ℕ))) → (length ws ≡ 0 → ⊥) → (length ws ≡ 1 → ⊥) → (length ws ≡ 2 → ⊥) → unknown ≡ command-of (map now ws)
-asks-more [] h k l = absurd (h refl)
-asks-more (w ∷ []) h k l = absurd (k refl)
-asks-more (w ∷ v ∷ []) h k l = absurd (l refl)
-asks-more (w ∷ v ∷ u ∷ ws) h k l = refl
+ends : (w : RefT (List ℕ)) (ws : List (RefT (List ℕ))) (d : RefT (List ℕ)) (k : ℕ) → k ≡ length ws → getD (w ∷ ws) k d .now ≡ last-of (w .now) (map now ws)
+ends w [] d zero e = refl
+ends w [] d (suc k) e = absurd (omega arith)
+ends w (v ∷ ws) d zero e = absurd (omega arith)
+ends w (v ∷ ws) d (suc k) e = ends v ws d k (omega arith)
+
+pub asks-more : (ws : List (RefT (List ℕ))) (d e f : RefT (List ℕ)) (k : ℕ) → (length ws ≡ 0 → ⊥) → (length ws ≡ 1 → ⊥) → (length ws ≡ 2 → ⊥) → k ≡ length ws - 1 → more-words (getD ws 0 d .now) (getD ws 1 e .now) (getD ws k f .now) ≡ command-of (map now ws)
+asks-more [] d e f k h i l m = absurd (h refl)
+asks-more (w ∷ []) d e f k h i l m = absurd (i refl)
+asks-more (w ∷ v ∷ []) d e f k h i l m = absurd (l refl)
+asks-more (w ∷ v ∷ u ∷ ws) d e f zero h i l m = absurd (omega arith)
+asks-more (w ∷ v ∷ u ∷ ws) d e f (suc zero) h i l m = absurd (omega arith)
+asks-more (w ∷ v ∷ u ∷ ws) d e f (suc (suc k)) h i l m = ap (more-words (w .now) (v .now)) (ends u ws f k (omega arith))

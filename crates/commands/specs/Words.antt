@@ -7,7 +7,7 @@ use lib.Dec.{eqb}
 use Rattle.values.specs.Values.{same-name}
 use Rattle.trees.specs.Files.{split}
 use Rattle.commands.specs.declared.asked.Command.{Command}
-use Rattle.commands.specs.declared.asked.Command.the-variants.{Nothing, Tree, Help, Unknown}
+use Rattle.commands.specs.declared.asked.Command.the-variants.{Nothing, Tree, Tool, Help, Unknown}
 
 -- parts that are not empty
 abbrev pub filled : List (List ℕ) → List (List ℕ)
@@ -28,6 +28,8 @@ line-words (b ∷ bs) = cond (eqb b 35) [] (words-of (b ∷ bs))
 pub data Asked : Type 0 where
   nothing help unknown : Asked
   tree : List ℕ → Asked
+  -- the name of a tool, and that of a tree file
+  tool : List ℕ → List ℕ → Asked
 
 -- what a single word asks, and a word with the name of a file
 abbrev pub one-word : List ℕ → Asked
@@ -36,15 +38,25 @@ one-word w = cond (same-name w (codes "help")) help unknown
 abbrev pub two-words : List ℕ → List ℕ → Asked
 two-words w f = cond (same-name w (codes "tree")) (tree f) unknown
 
+-- what three words or more ask, of which the first, the second and the last are these
+abbrev pub more-words : List ℕ → List ℕ → List ℕ → Asked
+more-words w n f = cond (same-name w (codes "tool")) (tool n f) unknown
+
+-- the last of some words
+abbrev pub last-of : List ℕ → List (List ℕ) → List ℕ
+last-of w [] = w
+last-of w (v ∷ ws) = last-of v ws
+
 -- what words ask
 abbrev pub command-of : List (List ℕ) → Asked
 command-of [] = nothing
 command-of (w ∷ []) = one-word w
 command-of (w ∷ f ∷ []) = two-words w f
-command-of (w ∷ f ∷ x ∷ ws) = unknown
+command-of (w ∷ f ∷ x ∷ ws) = more-words w f (last-of x ws)
 
 abbrev pub asked : Command → Asked
 asked Nothing = nothing
 asked (Tree f) = tree (f .now)
+asked (Tool n f) = tool (n .now) (f .now)
 asked Help = help
 asked Unknown = unknown

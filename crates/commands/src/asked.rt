@@ -7,6 +7,8 @@ pub enum Command<'a> {
     Nothing,
     // Check a tree file and list its value.
     Tree(&'a [u8]),
+    // Run a tool over a tree file: the tool's name and the file's. The words between them are the tool's command.
+    Tool(&'a [u8], &'a [u8]),
     // Tell the commands.
     Help,
     // No such command.

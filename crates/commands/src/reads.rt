@@ -4,7 +4,7 @@ ghost use mathlib.Core.List.{[], _∷_, _++_, map};
 ghost use Rattle.std.specs.Of.Vec.{vec-items};
 ghost use Rattle.std.specs.Vec.{made};
 ghost use denote.Ref.{now as pointed};
-ghost use Rattle.commands.specs.Words.{filled, words-of, line-words, one-word, two-words, command-of, asked};
+ghost use Rattle.commands.specs.Words.{filled, words-of, line-words, one-word, two-words, more-words, command-of, asked};
 use crate::asked::Command;
 use std::alloc::AllocError;
 use std::alloc::Global;
@@ -59,6 +59,17 @@ fn two_words<'a>(word: &[u8], file: &'a [u8]) -> Command<'a>
     }
 }
 
+// What three words or more ask for, of which the first, the second and the last are these.
+fn more_words<'a>(word: &[u8], name: &'a [u8], file: &'a [u8]) -> Command<'a>
+    ensures { λ r. ⌜ asked r ≡ more-words (now (word .entry)) (now (name .entry)) (now (file .entry)) ⌝ }
+{
+    if same(word, b"tool") {
+        Command::Tool(name, file)
+    } else {
+        Command::Unknown
+    }
+}
+
 // What words ask for.
 pub fn command<'a>(words: &[&'a [u8]]) -> Command<'a>
     ensures { λ r. ⌜ asked r ≡ command-of (map pointed (now (words .entry))) ⌝ }
@@ -72,7 +83,7 @@ pub fn command<'a>(words: &[&'a [u8]]) -> Command<'a>
     if words.len() == 2 {
         return two_words(words[0], words[1]);
     }
-    Command::Unknown
+    more_words(words[0], words[1], words[words.len() - 1])
 }
 
 // The words of a line; a line that begins with `#` is a remark, and has none.

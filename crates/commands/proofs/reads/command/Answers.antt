@@ -1,4 +1,4 @@
-use mathlib.Core.Path.{_≡_, _∙_}
+use mathlib.Core.Path.{_≡_, refl, _∙_}
 use mathlib.Core.Bool.{true, false}
 use native.Mathlib.Omega.{arith}
 use lib.Dec.{eqb}
@@ -22,4 +22,4 @@ returns-then-words-eq2 c = c .two-words .ensures ∙ asks-two (c .args .words .n
 pub returns : need.returns
 returns c =
     let e : false ≡ eqb (length (c .args .words .now)) 0 = c .if-is-empty .ensures tt in
-    asks-more (c .args .words .now) (λ z. grind (arith, tells)) (c .if-words-eq1 .left) (c .if-words-eq2 .left)
+    c .more-words .ensures ∙ asks-more (c .args .words .now) _ _ _ _ (λ z. grind (arith, tells)) (c .if-words-eq1 .left) (c .if-words-eq2 .left) refl
