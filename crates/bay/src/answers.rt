@@ -4,6 +4,7 @@ use crate::bench::Job;
 use crate::files::read_file;
 use crate::sentences::TABLE_FULL;
 use crate::sentences::tell_refused;
+use crate::stored::tell_caches;
 use checker::Checker;
 use checker::Shown;
 use commands::Command;
@@ -14,7 +15,7 @@ use std::io;
 use std::io::Write;
 
 const HELP: &str =
-    "tree FILE                check a tree file and list its value\ntool NAME WORDS.. FILE   run a tool over a tree file, the words between being its command\nhelp                     tell the commands\n# ...                    a remark\n";
+    "tree FILE                check a tree file and list its value\ntool NAME WORDS.. FILE   run a tool over a tree file, the words between being its command\ncaches                   fill, take from and clear each kind of cache, and tell its entries\nhelp                     tell the commands\n# ...                    a remark\n";
 
 // All the memory that commands are answered with.
 #[derive(Drop)]
@@ -101,6 +102,7 @@ pub(crate) fn answer(rt: &LibcRuntime, desk: &mut Desk, words: &[&[u8]]) -> io::
             };
             answer_tool(rt, &mut desk.bench, job, file)
         }
+        Command::Caches => tell_caches(rt),
         Command::Help => rt.stdout().write_all(HELP.as_bytes()),
         Command::Unknown => println!(rt, "unknown command"),
     }

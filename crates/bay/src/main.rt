@@ -3,6 +3,7 @@ mod answers;
 mod bench;
 mod files;
 mod sentences;
+mod stored;
 
 use crate::answers::Desk;
 use crate::answers::answer;

@@ -7,7 +7,7 @@ use lib.Dec.{eqb}
 use Rattle.values.specs.Values.{same-name}
 use Rattle.trees.specs.Files.{split}
 use Rattle.commands.specs.declared.asked.Command.{Command}
-use Rattle.commands.specs.declared.asked.Command.the-variants.{Nothing, Tree, Tool, Help, Unknown}
+use Rattle.commands.specs.declared.asked.Command.the-variants.{Nothing, Tree, Tool, Caches, Help, Unknown}
 
 -- parts that are not empty
 abbrev pub filled : List (List ℕ) → List (List ℕ)
@@ -26,14 +26,14 @@ line-words (b ∷ bs) = cond (eqb b 35) [] (words-of (b ∷ bs))
 
 -- what may be asked
 pub data Asked : Type 0 where
-  nothing help unknown : Asked
+  nothing caches help unknown : Asked
   tree : List ℕ → Asked
   -- the name of a tool, and that of a tree file
   tool : List ℕ → List ℕ → Asked
 
 -- what a single word asks, and a word with the name of a file
 abbrev pub one-word : List ℕ → Asked
-one-word w = cond (same-name w (codes "help")) help unknown
+one-word w = cond (same-name w (codes "help")) help (cond (same-name w (codes "caches")) caches unknown)
 
 abbrev pub two-words : List ℕ → List ℕ → Asked
 two-words w f = cond (same-name w (codes "tree")) (tree f) unknown
@@ -58,5 +58,6 @@ abbrev pub asked : Command → Asked
 asked Nothing = nothing
 asked (Tree f) = tree (f .now)
 asked (Tool n f) = tool (n .now) (f .now)
+asked Caches = caches
 asked Help = help
 asked Unknown = unknown

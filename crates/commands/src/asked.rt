@@ -9,6 +9,8 @@ pub enum Command<'a> {
     Tree(&'a [u8]),
     // Run a tool over a tree file: the tool's name and the file's. The words between them are the tool's command.
     Tool(&'a [u8], &'a [u8]),
+    // Fill, take from and clear each kind of cache.
+    Caches,
     // Tell the commands.
     Help,
     // No such command.

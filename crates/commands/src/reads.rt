@@ -43,6 +43,8 @@ fn one_word<'a>(word: &[u8]) -> Command<'a>
 {
     if same(word, b"help") {
         Command::Help
+    } else if same(word, b"caches") {
+        Command::Caches
     } else {
         Command::Unknown
     }

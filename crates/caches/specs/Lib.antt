@@ -1,0 +1,9 @@
+pub mod Keys
+pub mod Paths
+pub mod Entries
+pub mod Exact
+pub mod Rings
+pub mod Slots
+pub mod Lines
+pub mod Held
+pub mod Sameness

@@ -1,0 +1,11 @@
+pub mod Words
+pub mod Tokens
+pub mod Readers
+pub mod Syntax
+pub mod Grammar
+pub mod Texts
+pub mod Checks
+pub mod Models
+pub mod Alone
+pub mod Laws
+pub mod Examples
