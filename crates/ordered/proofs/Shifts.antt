@@ -6,8 +6,8 @@ use native.Mathlib.Omega.{arith}
 use lib.ListN.{length, getD, set, take, drop, length-take, length-drop, length-set, length-append}
 use borrow.Rule.Slice.PartMut.{putMid}
 use Rattle.std.specs.Holes.{inserted}
-use Rattle.std.proofs.shelf.Lists.{take-take, take-set, take-set-le, drop-take, drop-drop, drop-set}
-use Rattle.std.proofs.shelf.Parts.{take-putMid}
+use Rattle.std.proofs.shelf.Lists.{take-take, take-set, take-set-le, drop-take, drop-drop, drop-set, drop-set-lt}
+use Rattle.std.proofs.shelf.Parts.{take-putMid, drop-putMid}
 use Rattle.std.proofs.shelf.Edits.{length-inserted, getD-inserted-below, getD-inserted-at, getD-inserted-above}
 use Rattle.ordered.proofs.Climbs.{PutIn}
 
@@ -38,6 +38,11 @@ module _ {K : Type 0} (ks : List K) (len i : ℕ) (k : K) (within : len < length
       let long : length zs ≡ len + 1 - i = ap length is ∙ simp (length-drop, length-take) (omega arith) in
       take-putMid i (len + 1 - i) set-ks zs (len + 1) (omega arith) (simp length-set (omega arith))
       ∙ (λ j. (take-set-le i ks len k low ∙ sym (take-take i len ks low)) j ++ is j)
+
+  pub rest-stays : (zs : List K) → zs ≡ drop (length mid - 1) mid ++ take (length mid - 1) mid → drop (len + 1) (putMid i (len + 1 - i) set-ks zs) ≡ drop (len + 1) ks
+  rest-stays zs e =
+      let long : length zs ≡ len + 1 - i = ap length e ∙ simp (length-append, length-drop, length-take, length-set) (omega arith) in
+      drop-putMid i (len + 1 - i) set-ks zs (len + 1) (omega arith) (simp length-set (omega arith)) long ∙ drop-set-lt (len + 1) ks len k (omega arith)
 
 pub put-in : {K : Type 0} (xs ys : List K) (i : ℕ) (k : K) → i ≤ length xs → ys ≡ inserted xs i k → PutIn xs i k ys
 put-in xs ys i k h e = subst (PutIn xs i k) (sym e) (record {

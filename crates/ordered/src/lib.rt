@@ -2,7 +2,7 @@
 ghost use mathlib.Core.Path.{_≡_};
 ghost use mathlib.Core.Bool.{cond};
 ghost use Prim.Native.Nat.{_+_, _<_, _≤_};
-ghost use lib.ListN.{length, take};
+ghost use lib.ListN.{length, take, drop};
 ghost use Rattle.std.specs.Keys.{Total};
 ghost use Rattle.std.specs.Options.{isSome};
 ghost use Rattle.std.specs.Of.Vec.{vec-items, vec-len, vec-cap};
@@ -60,7 +60,8 @@ pub fn insert<K: Ord + Drop>(keys: &mut Vec<K>, key: K) -> Option<usize>
 
 // The same in a lent slice, of which the first `len` are in use; None also where all are in use.
 pub fn insert_lent<K: Ord + Copy>(keys: &mut [K], len: usize, key: K) -> Option<usize>
-    ensures { λ r. ⌜ ((o : Total (K·Ord .orders)) → Climbs (o .cmp) (take len (now (keys .entry))) → Inserts (o .cmp) (Room len (length (now (keys .entry)))) (take len (now (keys .entry))) key r (take (len + cond (isSome r) 1 0) (now (keys .exit)))) ⌝ }
+    ensures inserted { λ r. ⌜ ((o : Total (K·Ord .orders)) → Climbs (o .cmp) (take len (now (keys .entry))) → Inserts (o .cmp) (Room len (length (now (keys .entry)))) (take len (now (keys .entry))) key r (take (len + cond (isSome r) 1 0) (now (keys .exit)))) ⌝ }
+    ensures rest { λ _. ⌜ drop (len + 1) (now (keys .exit)) ≡ drop (len + 1) (now (keys .entry)) ⌝ }
 {
     if len >= keys.len() {
         return None;
