@@ -9,12 +9,12 @@ use caches::Key;
 use caches::NoCache;
 use caches::NoCacheCache;
 use caches::Pair;
+use caches::PairBesidePair;
 use caches::PairCache;
 use caches::Question;
 use caches::Ring;
 use caches::RingCache;
 use caches::RingSingle;
-use caches::SingleBesidePair;
 use caches::SingleBesideSingle;
 use std::io;
 use std::io::Write;
@@ -142,7 +142,11 @@ pub(crate) fn tell_caches(rt: &LibcRuntime) -> io::Result<()> {
     tell_cache(rt, "ring", &mut Ring::new(heap)?)?;
     let mut pair = Pair::new(Ring::new(heap)?, Keeper::new(heap)?);
     tell_cache(rt, "pair of ring and keeper", &mut pair)?;
-    let inner = Pair::new(Ring::new(heap)?, Ring::new(heap)?);
-    let mut nested = Pair::new(Keeper::new(heap)?, inner);
-    tell_cache(rt, "pair of keeper and a pair of rings", &mut nested)
+    let near = Pair::new(Ring::new(heap)?, Keeper::new(heap)?);
+    let far = Pair::new(Keeper::new(heap)?, Ring::new(heap)?);
+    tell_cache(
+        rt,
+        "pair of two pairs: ring and keeper, keeper and ring",
+        &mut Pair::new(near, far),
+    )
 }

@@ -35,10 +35,6 @@ Goes (fails code) given e after out = (e ≡ Failure code) × (after ≡ given)
 Goes (faults n) given e after out = (fault-number e ≡ n) × (after ≡ given)
 Goes unknown given e after out = (e ≡ Unknown) × (after ≡ given)
 
--- a fetch that is under way
-abbrev pub Fetches : Next → List ℕ → List Answer → Event → List Answer → Type 0
-Fetches next path given e after = Goes next given e after path
-
 -- a text, or none
 abbrev pub read : Seen → Answer
 read Nothing = none

@@ -1,7 +1,7 @@
 -- The value table: the values held, oldest first, each once. A number is a position in it. Assumes nothing.
 use mathlib.Core.Path.{_≡_}
 use mathlib.Core.List.{List, [], _∷_, _++_}
-use mathlib.Core.Bool.{Bool, true, false, cond, not, _&&_}
+use mathlib.Core.Bool.{Bool, true, false, cond, _&&_}
 use mathlib.Core.Option.{Option, none, some}
 use Prim.Native.Nat.{ℕ, _+_, _<_}
 use lib.Dec.{leb, ltb}
@@ -25,11 +25,6 @@ Table = List Value
 abbrev pub holds : Value → Table → Bool
 holds v [] = false
 holds v (w ∷ ws) = cond (same-value v w) true (holds v ws)
-
--- no value stands twice
-abbrev pub distinct : Table → Bool
-distinct [] = true
-distinct (v ∷ vs) = not (holds v vs) && distinct vs
 
 -- what a value takes of each of the three budgets: values, bytes of text, members
 abbrev pub one-value : Value → ℕ
