@@ -77,12 +77,13 @@ fn tell_answer(rt: &LibcRuntime, heard: Heard<'_>) -> io::Result<()> {
 
 // Tells how a run ends.
 fn tell_end(rt: &LibcRuntime, event: Event, out: &[u8; MAX_BYTES]) -> io::Result<()> {
+    let number = event.number();
     match event {
         Event::Fetched(_) => Ok(()),
         Event::Product(len) => tell_line(rt, b"product", front(out, len)),
         Event::Failure(code) => println!(rt, "failure {code}"),
-        Event::BadPath => println!(rt, "refused 27: {BAD_PATH}"),
-        Event::NoRoom => println!(rt, "refused 28: {NO_ROOM}"),
+        Event::BadPath => println!(rt, "refused {number}: {BAD_PATH}"),
+        Event::NoRoom => println!(rt, "refused {number}: {NO_ROOM}"),
         Event::Unknown => println!(rt, "no such command of a tool: it has over 1,024 bytes"),
     }
 }

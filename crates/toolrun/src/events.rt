@@ -1,4 +1,6 @@
 // What happens next in a tool's run.
+ghost use mathlib.Core.Path.{_≡_};
+ghost use Rattle.toolrun.specs.Kept.{fault-number};
 
 // An event; the path or the product stands in front of a lent buffer, with so many bytes.
 #[derive(Clone, Copy)]
@@ -15,6 +17,19 @@ pub enum Event {
     NoRoom,
     // There is no such tool, or no such command.
     Unknown,
+}
+
+impl Event {
+    // The number of the refusal with which the run ends, 0 where it is none.
+    pub fn number(self) -> u8
+        ensures { λ r. ⌜ r ≡ fault-number self ⌝ }
+    {
+        match self {
+            Event::BadPath => 27,
+            Event::NoRoom => 28,
+            _ => 0,
+        }
+    }
 }
 
 // What stands at a path: only a text is told.
