@@ -22,22 +22,22 @@ use crate::rooms::SingleBesidePair;
 use crate::rooms::SingleBesideSingle;
 use values::Number;
 
-pub fn first_in_none(cache: &mut NoCache, key: Key) -> Option<Number>
+pub fn first_in_none(none: &mut NoCache, key: Key) -> Option<Number>
     ensures { λ r. ⌜ r ≡ None ⌝ }
 {
-    first_product(cache, key)
+    first_product(none, key)
 }
 
-pub fn first_in_keeper(cache: &mut Keeper, key: Key) -> Option<Number>
-    ensures { λ r. ⌜ Looks key 0 (keeper-held (now (cache .entry))) r (keeper-held (now (cache .exit))) ⌝ }
+pub fn first_in_keeper(keeper: &mut Keeper, key: Key) -> Option<Number>
+    ensures { λ r. ⌜ Looks key 0 (keeper-held (now (keeper .entry))) r (keeper-held (now (keeper .exit))) ⌝ }
 {
-    first_product(cache, key)
+    first_product(keeper, key)
 }
 
-pub fn first_in_ring(cache: &mut Ring, key: Key) -> Option<Number>
-    ensures { λ r. ⌜ Looks key 0 (ring-held (now (cache .entry))) r (ring-held (now (cache .exit))) ⌝ }
+pub fn first_in_ring(ring: &mut Ring, key: Key) -> Option<Number>
+    ensures { λ r. ⌜ Looks key 0 (ring-held (now (ring .entry))) r (ring-held (now (ring .exit))) ⌝ }
 {
-    first_product(cache, key)
+    first_product(ring, key)
 }
 
 // A keeper behind a ring stays as it is.
@@ -48,8 +48,8 @@ pub fn first_in_two(cache: &mut Pair<Ring, Keeper>, key: Key) -> Option<Number>
     first_product(cache, key)
 }
 
-pub fn first_in_three(cache: &mut Pair<Keeper, Pair<Ring, Ring>>, key: Key) -> Option<Number>
-    ensures { λ r. ⌜ r ≡ product-at key 0 (keeper-held (now (cache .entry) .near) ++ (ring-held (now (cache .entry) .far .near) ++ ring-held (now (cache .entry) .far .far))) ⌝ }
+pub fn first_in_three(three: &mut Pair<Keeper, Pair<Ring, Ring>>, key: Key) -> Option<Number>
+    ensures { λ r. ⌜ r ≡ product-at key 0 (keeper-held (now (three .entry) .near) ++ (ring-held (now (three .entry) .far .near) ++ ring-held (now (three .entry) .far .far))) ⌝ }
 {
-    first_product(cache, key)
+    first_product(three, key)
 }
