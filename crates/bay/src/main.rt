@@ -1,4 +1,6 @@
 // The program: commands from standard input, one a line, or one from the arguments.
+#![tactic(auto)]
+
 mod answers;
 mod bench;
 mod files;

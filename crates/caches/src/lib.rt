@@ -1,4 +1,6 @@
 // What a run keeps of earlier runs: caches, and how they are put together.
+#![tactic(auto)]
+
 mod beside;
 mod caches;
 mod instances;

@@ -1,4 +1,6 @@
 // Checking a tree file, and showing its value.
+#![tactic(auto)]
+
 mod answers;
 mod calls;
 mod desk;

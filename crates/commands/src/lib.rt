@@ -1,4 +1,6 @@
 // The commands of the program.
+#![tactic(auto)]
+
 mod asked;
 mod reads;
 

@@ -1,4 +1,6 @@
 // Entering a tree into the value table.
+#![tactic(auto)]
+
 mod answers;
 mod calls;
 mod leaves;

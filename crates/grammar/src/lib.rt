@@ -1,4 +1,6 @@
 // The language of models: its tokens, its grammar, its refusals, and what is proved of them.
+#![tactic(auto)]
+
 mod examples;
 mod laws;
 

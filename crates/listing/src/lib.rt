@@ -1,4 +1,6 @@
 // Listing a value of the table into a lent buffer.
+#![tactic(auto)]
+
 mod answers;
 mod calls;
 mod output;

@@ -1,4 +1,6 @@
 // Rows of keys in order, for every kind of key that has a total order.
+#![tactic(auto)]
+
 ghost use Rattle.std.specs.Prelude.{◌≡◌, ◌+◌, ◌<◌, ◌≤◌, length, take, drop, is_some, if◌then◌else◌, vec_len, vec_capacity, MatchResult};
 ghost use Rattle.std.specs.Cmp.{IsTotalOrder};
 ghost use Rattle.ordered.specs.Climbing.{Climbs, Found, Stands, Inserts, Room};

@@ -1,4 +1,6 @@
 // Reads the tokens of a model one by one, each judged fully before the next is looked at.
+#![tactic(auto)]
+
 mod kinds;
 mod position;
 mod reading;

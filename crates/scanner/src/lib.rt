@@ -1,4 +1,6 @@
 // The tokens of a model, one after the other.
+#![tactic(auto)]
+
 mod bytes;
 mod fronts;
 mod runs;

@@ -1,4 +1,6 @@
 // Tests of the value table and of listings.
+#![tactic(auto)]
+
 #[cfg(test)]
 mod tests {
     use listing::{Unlisted, list};

@@ -1,4 +1,6 @@
 // Running a tool's plan over a value of the table.
+#![tactic(auto)]
+
 mod events;
 mod fetches;
 mod keeps;

@@ -1,4 +1,6 @@
 // Tools by name: what a tool asks for and gives, toolboxes, and the tools `cat` and `first`.
+#![tactic(auto)]
+
 mod answers;
 mod beside;
 mod choosing;

@@ -1,4 +1,6 @@
 // Tests of tree files: what is answered to each, with the place worked out by hand.
+#![tactic(auto)]
+
 #[cfg(test)]
 mod tests {
     use std::alloc::{AllocError, Global};

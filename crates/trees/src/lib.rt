@@ -1,4 +1,6 @@
 // Tree files: their lines, and when a file is accepted.
+#![tactic(auto)]
+
 mod answers;
 mod checks;
 mod escapes;

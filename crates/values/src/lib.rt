@@ -1,4 +1,6 @@
 // Values, and the table that holds each of them once.
+#![tactic(auto)]
+
 mod checks;
 mod contents;
 mod cut;
