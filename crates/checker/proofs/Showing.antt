@@ -1,9 +1,9 @@
 -- An accepted tree is listed, and the table taken back. Assumes nothing.
-use Rattle.std.proofs.Common.{◌≡◌, ℕ, ◌-◌, ◌≤◌, min, max, Bool, true, false, leb, List, [], ◌∷◌, ◌++◌, length, take, drop, Ok, Err, MatchBool, Result, sym, refl, ap, ◌∙◌, subst, arith}
-use mathlib.Core.Option.{Option, none, some}
+use Rattle.std.proofs.Common.{◌≡◌, ℕ, ◌-◌, ◌≤◌, min, max, Bool, true, false, leb, List, ◌++◌, length, take, drop, Ok, Err, MatchBool, Result, sym, refl, ap, ◌∙◌, subst, arith}
+use mathlib.Core.Option.{Option, some}
 use Rattle.std.proofs.lemmas.Bool.Decides.{nat_tests}
 use Rattle.std.proofs.lemmas.List.{take_at, take-take, take-append-le, take_all, length-take}
-use Rattle.values.specs.Values.{Value, nth}
+use Rattle.values.specs.Values.{Value}
 use Rattle.values.specs.Table.{Table}
 use Rattle.values.specs.Memory.{values}
 use Rattle.values.specs.declared.store.Table.{Table as Store}
@@ -12,7 +12,7 @@ use Rattle.trees.specs.Files.{listing}
 use Rattle.listing.specs.Lists.{Lists, Writes, Refuses}
 use Rattle.listing.specs.declared.answers.Unlisted.{Unlisted}
 use Rattle.listing.specs.declared.answers.Unlisted.TheVariants.{ShortBuffer}
-use Rattle.entering.specs.Entries.{parts, enter_all}
+use Rattle.entering.specs.Entries.{enter_all}
 use Rattle.entering.proofs.Growing.{all_extends, two, back}
 
 -- a listing that has room is written

@@ -1,11 +1,10 @@
 -- Words taken from a line part by part, and what they ask. Assumes nothing.
-use Rattle.std.proofs.Common.{◌≡◌, ℕ, zero, suc, ◌-◌, List, [], ◌∷◌, ◌++◌, map, length, get_or, Some, None, sym, refl, ap, ◌∙◌, subst, append_assoc, append-nil, arith, Bor}
-use Rattle.std.proofs.lemmas.List.{map-append}
+use Rattle.std.proofs.Common.{◌≡◌, ℕ, zero, suc, ◌-◌, List, [], ◌∷◌, ◌++◌, map, length, get_or, Some, None, sym, refl, ap, ◌∙◌, append_assoc, arith, Bor}
 use Rattle.trees.specs.declared.parts.Parts.{Parts}
 use Rattle.trees.specs.Cuts.{Cuts}
 use Rattle.trees.specs.Files.{split}
 use Rattle.trees.proofs.Order.{parts_of}
-use Rattle.commands.specs.Words.{filled, words_of, Asked, nothing, unknown, one_word, two_words, more_words, last_of, command_of}
+use Rattle.commands.specs.Words.{filled, words_of, nothing, one_word, two_words, more_words, last_of, command_of}
 
 pub none_kept : (s : List ℕ) → length s ≡ 0 → filled (s ∷ []) ≡ []
 none_kept [] h = refl

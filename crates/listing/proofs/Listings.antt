@@ -1,5 +1,5 @@
 -- A whole listing, and the passes over it. Assumes nothing.
-use Rattle.std.proofs.Common.{◌≡◌, ℕ, ◌+◌, ◌≤◌, Bool, true, false, ◌&&◌, leb, List, [], ◌∷◌, ◌++◌, map, length, drop, Ok, Err, MatchBool, Result, refl, ap, ◌∙◌, zero-add, arith}
+use Rattle.std.proofs.Common.{◌≡◌, ℕ, ◌≤◌, Bool, true, false, ◌&&◌, leb, List, [], ◌∷◌, ◌++◌, map, length, drop, Ok, Err, MatchBool, Result, refl, ap, ◌∙◌, zero-add, arith}
 use mathlib.Core.Option.{some}
 use Rattle.std.proofs.lemmas.Bool.Decides.{nat_tests}
 use Rattle.values.specs.declared.parts.Content.{Content}
@@ -8,7 +8,7 @@ use Rattle.values.specs.Values.{Value, binding, Members}
 use Rattle.values.specs.Limits.{height, small, all_ordered, all_named, proper}
 use Rattle.values.specs.Table.{content_value}
 use Rattle.trees.specs.Lines.{Line, line}
-use Rattle.trees.specs.Files.{written, listing, read_tree, done}
+use Rattle.trees.specs.Files.{listing, read_tree, done}
 use Rattle.trees.proofs.Spellings.{reads}
 use Rattle.listing.specs.declared.answers.Unlisted.{Unlisted}
 use Rattle.listing.specs.declared.answers.Unlisted.TheVariants.{ShortBuffer}

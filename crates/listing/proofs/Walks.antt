@@ -1,5 +1,5 @@
 -- The lines of members and values, piece by piece. Assumes nothing.
-use Rattle.std.proofs.Common.{◌≡◌, ℕ, zero, suc, ◌+◌, ◌<◌, ◌≤◌, true, List, [], ◌∷◌, ◌++◌, map, length, get_or, Some, sym, refl, ap, ◌∙◌, append_assoc, append-nil, arith}
+use Rattle.std.proofs.Common.{◌≡◌, ℕ, zero, suc, ◌<◌, ◌≤◌, true, List, [], ◌∷◌, ◌++◌, map, length, get_or, Some, sym, refl, ap, ◌∙◌, append_assoc, append-nil, arith}
 use mathlib.Core.Option.{none, some}
 use Rattle.std.specs.List.{flat_map as flat}
 use Rattle.std.proofs.lemmas.List.{map-append}

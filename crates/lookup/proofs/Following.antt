@@ -1,7 +1,7 @@
 -- One name of a path after the other. Assumes nothing.
 use Rattle.std.proofs.Common.{◌≡◌, ℕ, List, [], ◌∷◌, Some, None, Option as Answer, sym, refl, ap, ◌∙◌, Bor}
 use mathlib.Core.Option.{Option, none, some}
-use Rattle.values.specs.Values.{Name, Value, and_then, child, look}
+use Rattle.values.specs.Values.{Name, Value, and_then, child}
 use Rattle.trees.specs.declared.parts.Parts.{Parts}
 use Rattle.trees.specs.Cuts.{Cuts}
 use Rattle.trees.specs.Files.{split}

@@ -75,7 +75,7 @@ pub fn insert_lent<K: Ord + Copy>(keys: &mut [K], len: usize, key: K) -> Option<
 
 // Finds a name among names that are lent.
 pub fn find_name<'a>(names: &[&'a [u8]], name: &&'a [u8]) -> Result<usize, usize>
-    ensures { Climbs name_order.cmp names.now → Found name_order.cmp names.now name.now result }
+    ensures { Climbs name_order names.now → Found name_order names.now name.now result }
 {
     find(names, name)
 }

@@ -1,15 +1,15 @@
 -- Room for one answer more, and a fetch that is kept. Assumes nothing.
-use Rattle.std.proofs.Common.{◌≡◌, ℕ, ◌+◌, ◌-◌, ◌≤◌, min, Bool, true, false, cond, ◌&&◌, ltb, leb, List, [], ◌∷◌, ◌++◌, map, length, take, drop, Some, None, vec_items, vec_len, sym, refl, ap, ◌∙◌, subst, arith}
+use Rattle.std.proofs.Common.{◌≡◌, ℕ, ◌+◌, ◌-◌, ◌≤◌, min, Bool, true, false, cond, ◌&&◌, ltb, leb, List, [], ◌∷◌, ◌++◌, length, take, drop, Some, None, vec_items, vec_len, sym, refl, ap, ◌∙◌, subst, arith}
 use mathlib.Core.Option.{Option, none, some}
 use Rattle.std.proofs.lemmas.Bool.Decides.{nat_tests}
-use Rattle.std.proofs.lemmas.List.{length-map, length-append, length-drop, take_all, take_at}
+use Rattle.std.proofs.lemmas.List.{length-map, length-append, take_all, take_at}
 use Rattle.values.specs.Values.{Value, look}
 use Rattle.trees.specs.Files.{split}
 use Rattle.lookup.specs.Finds.{looked}
 use Rattle.tools.specs.Tools.{Answer, Reply, fetch, product, failure}
 use Rattle.tools.specs.Calls.{meant, written, Tells}
 use Rattle.tools.specs.declared.replies.Reply.TheVariants.{Fetch, Product, Failure}
-use Rattle.toolrun.specs.Runs.{Event as Next, fetched, faults, told, fetchable, size, sizes, has_room, fetching, event_of}
+use Rattle.toolrun.specs.Runs.{fetched, faults, told, fetchable, size, sizes, has_room, fetching, event_of}
 use Rattle.toolrun.specs.Told.{all_within}
 use Rattle.toolrun.specs.Kept.{answers, Goes}
 use Rattle.toolrun.specs.declared.events.Event.{Event}

@@ -1,12 +1,10 @@
 -- Answers in a pool that grows. Assumes nothing.
-use Rattle.std.proofs.Common.{◌≡◌, ℕ, ◌+◌, ◌≤◌, min, Bool, true, false, ◌&&◌, leb, List, [], ◌∷◌, ◌++◌, map, length, take, drop, sym, refl, ap, ◌∙◌, subst, arith, length-drop, length-take}
+use Rattle.std.proofs.Common.{◌≡◌, ℕ, ◌+◌, ◌≤◌, true, leb, List, [], ◌∷◌, ◌++◌, map, length, take, drop, sym, refl, ap, ◌∙◌, arith, length-drop, length-take}
 use mathlib.Core.Option.{none, some}
 use Rattle.std.proofs.lemmas.Bool.Decides.{nat_tests}
-use Rattle.std.proofs.lemmas.List.{map-append, take-append-le, drop-append-le, drop_at, take_all, length-append}
+use Rattle.std.proofs.lemmas.List.{map-append, take-append-le, drop-append-le, drop_at, take_all}
 use Rattle.trees.proofs.Splits.{both, both_hold}
-use Rattle.tools.specs.Tools.{Answer}
 use Rattle.tools.specs.Calls.{meant}
-use Rattle.tools.specs.declared.answers.Span.{Span}
 use Rattle.tools.specs.declared.answers.Told.{Told}
 use Rattle.tools.specs.declared.answers.Told.TheVariants.{Nothing, Text}
 use Rattle.toolrun.specs.Runs.{size, sizes}

@@ -1,6 +1,6 @@
 -- One turn over the paths of a command and the answers so far. Assumes nothing.
 use Rattle.std.proofs.Common.{◌≡◌, ℕ, ◌+◌, ◌<◌, ◌≤◌, leb, List, [], ◌∷◌, ◌++◌, length, drop, Option as Perhaps, sym, refl, ap, ◌∙◌, Bor}
-use mathlib.Core.Option.{Option, none, some}
+use mathlib.Core.Option.{none, some}
 use Rattle.std.proofs.lemmas.Bool.{cond-true, cond-false, le-leb, lt-leb}
 use Rattle.values.specs.Values.{nth}
 use Rattle.trees.specs.declared.parts.Parts.{Parts}

@@ -1,6 +1,6 @@
 -- `cat` and `first` over whole lists of answers. Assumes nothing.
-use Rattle.std.proofs.Common.{◌≡◌, ℕ, zero, suc, ◌+◌, ◌<◌, ◌≤◌, leb, List, [], ◌∷◌, ◌++◌, map, length, replicate, sym, refl, ap, ◌∙◌, append_assoc, append-nil, arith, length-append}
-use mathlib.Core.Option.{none, some}
+use Rattle.std.proofs.Common.{◌≡◌, ℕ, zero, suc, ◌<◌, ◌≤◌, leb, List, [], ◌∷◌, ◌++◌, map, length, sym, refl, ap, ◌∙◌, append_assoc, append-nil, arith, length-append}
+use mathlib.Core.Option.{some}
 use Rattle.std.proofs.lemmas.Bool.{cond-true, le-leb}
 use Rattle.values.specs.Values.{nth}
 use Rattle.trees.specs.Files.{split}

@@ -1,9 +1,8 @@
 -- Laws of accepted trees. Assumes nothing.
-use Rattle.std.proofs.Common.{◌≡◌, ℕ, ◌≤◌, Bool, true, false, cond, ◌&&◌, leb, List, length, sym, refl, ap, ◌∙◌, subst, arith}
+use Rattle.std.proofs.Common.{◌≡◌, ℕ, ◌≤◌, Bool, true, false, cond, ◌&&◌, leb, List, length, sym, refl, ap, ◌∙◌, arith}
 use Rattle.std.proofs.lemmas.Bool.Decides.{nat_tests}
 use Rattle.values.specs.Values.{Members, nil, binding}
-use Rattle.values.specs.Limits.{proper as is_proper, height, small, ordered, named, all_ordered, all_named}
-use Rattle.trees.specs.Lines.{within}
+use Rattle.values.specs.Limits.{proper as is_proper, height, small, all_ordered, all_named}
 use Rattle.trees.specs.Files.{File, done, refused, accepted, members_read, split, read_from, read_tree, listing}
 use Rattle.trees.specs.Accepted.{tree_members, tree_value, value_read}
 use Rattle.trees.specs.declared.tree.Tree.{Tree}

@@ -1,13 +1,13 @@
 -- A file read line by line. Assumes nothing.
-use Rattle.std.proofs.Common.{◌≡◌, ℕ, ◌+◌, ◌-◌, ◌<◌, ◌≤◌, Bool, true, false, cond, leb, List, [], ◌∷◌, ◌++◌, length, Some, None, Option as Answer, sym, refl, ap, ◌∙◌, subst, arith, Bor, MutBor}
+use Rattle.std.proofs.Common.{◌≡◌, ℕ, ◌+◌, ◌-◌, ◌<◌, ◌≤◌, true, false, cond, leb, List, [], ◌∷◌, length, Some, None, sym, refl, ap, ◌∙◌, arith, Bor}
 use mathlib.Core.Option.{Option, none, some}
 use Rattle.std.proofs.lemmas.Bool.Decides.{nat_tests}
 use Rattle.values.specs.Values.{Members, nil}
 use Rattle.trees.specs.declared.parts.Parts.{Parts}
 use Rattle.trees.specs.declared.progress.Progress.{Progress}
-use Rattle.trees.specs.Lines.{Line, Read, ok, bad, step}
+use Rattle.trees.specs.Lines.{Line, ok, bad}
 use Rattle.trees.specs.Cuts.{Cuts}
-use Rattle.trees.specs.Files.{split, line_of, File, done, refused, accepted, on_step, on_line, read_from, read_tree}
+use Rattle.trees.specs.Files.{split, line_of, File, done, refused, on_step, on_line, read_from, read_tree}
 use Rattle.trees.specs.Following.{Follows, step_read}
 use Rattle.trees.proofs.Splits.{split_some}
 use Rattle.trees.proofs.Order.{parts_of, shorter}
@@ -47,7 +47,7 @@ one_line at ms left r s c e =
     let q = split_some 10 s.now in
     ap (read_from at ms) (parts_of 10 left r (Some s) c e) ∙ line_read at ms r.first.now q.0 q.1 (split 10 s.now) q.2
 
-pub goes_on : (bs left : List ℕ) (kept next : Progress) (r : Parts) (s : MutBor (List ℕ)) (g : Going bs left kept) → Cuts 10 left r → r.rest ≡ Some s → ((ws : Members) × (step_read (line_of r.first.now) g.so_far ≡ ok ws) × Follows ws next) → Going bs s.now next
+pub goes_on : (bs left : List ℕ) (kept next : Progress) (r : Parts) (s : Bor (List ℕ)) (g : Going bs left kept) → Cuts 10 left r → r.rest ≡ Some s → ((ws : Members) × (step_read (line_of r.first.now) g.so_far ≡ ok ws) × Follows ws next) → Going bs s.now next
 goes_on bs left kept next r s g c e (ws, t, f) =
     let at = length bs - length left in
     let l = shorter 10 left r s c e in

@@ -1,9 +1,8 @@
 -- Cutting at the first separator, as a loop does it, and what it means for the parts. Assumes nothing.
-use Rattle.std.proofs.Common.{◌≡◌, ℕ, ◌+◌, ◌-◌, ◌<◌, ◌≤◌, Bool, true, false, not, ◌&&◌, eqb, List, [], ◌∷◌, ◌++◌, length, get_or, take, drop, Some, None, Option as Answer, sym, refl, ap, ◌∙◌, subst, append-nil, arith, Bor}
+use Rattle.std.proofs.Common.{◌≡◌, ℕ, ◌+◌, ◌-◌, ◌<◌, ◌≤◌, true, not, eqb, List, [], ◌∷◌, ◌++◌, length, get_or, take, drop, Some, None, Option as Answer, sym, refl, ap, ◌∙◌, append-nil, arith, Bor}
 use Rattle.std.proofs.lemmas.Bool.Decides.{nat_tests}
 use Rattle.std.proofs.lemmas.List.{take-append-drop, take_more, take_all, take_rest, drop_more, length-append}
-use Rattle.trees.specs.declared.parts.Parts.{Parts}
-use Rattle.trees.specs.Cuts.{free, behind, Cuts}
+use Rattle.trees.specs.Cuts.{free, behind}
 use Rattle.trees.specs.Files.{split}
 use Rattle.trees.proofs.Splits.{both_hold, free_both, split_front, split_free}
 

@@ -1,12 +1,12 @@
 -- What is read is a binding as it should be. Assumes nothing.
-use Rattle.std.proofs.Common.{◌≡◌, ℕ, ◌+◌, Bool, true, false, cond, ◌&&◌, leb, List, [], ◌∷◌, ◌++◌, length, sym, refl, ap, ◌∙◌, subst, arith}
+use Rattle.std.proofs.Common.{◌≡◌, ℕ, ◌+◌, Bool, true, false, cond, ◌&&◌, leb, List, [], ◌∷◌, length, sym, refl, ap, ◌∙◌, subst, arith}
 use mathlib.Core.Option.{Option, none, some}
 use Rattle.values.specs.Values.{Name, Value, text, truth, binding, Members, nil, cons, same_name, before, mapped}
 use Rattle.values.specs.Limits.{first_after, ordered, all_ordered, fit, named, all_named}
 use Rattle.trees.specs.Lines.{Leaf, text_leaf, truth_leaf, empty_leaf, Line, line, Read, ok, bad, after, chain, at_end, put, into, within, step}
-use Rattle.trees.specs.Files.{split, all_fit, leaf_of, line_from, line_of, File, done, refused, on_step, on_line, read_from, read_tree}
+use Rattle.trees.specs.Files.{split, all_fit, leaf_of, line_from, line_of, done, refused, on_step, on_line, read_from, read_tree}
 use Rattle.trees.proofs.Listed.{clash, after_ok}
-use Rattle.trees.proofs.Splits.{no, both, both_hold}
+use Rattle.trees.proofs.Splits.{both, both_hold}
 use Rattle.trees.proofs.Spellings.{never, when_some, mapped_some}
 
 record Fine (ms : Members) : Type 0 where

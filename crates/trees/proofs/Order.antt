@@ -1,17 +1,15 @@
 -- Paths taken apart and compared name by name. Assumes nothing.
-use Rattle.std.proofs.Common.{◌≡◌, ℕ, suc, ◌+◌, ◌<◌, ◌≤◌, Bool, true, false, cond, ◌&&◌, eqb, ltb, List, [], ◌∷◌, ◌++◌, length, get_or, drop, Some, None, Option as Answer, Ordering, Less, Equal, Greater, sym, refl, ap, ◌∙◌, subst, arith, Bor}
+use Rattle.std.proofs.Common.{◌≡◌, ℕ, suc, ◌+◌, Bool, true, false, cond, ◌&&◌, eqb, List, [], ◌∷◌, ◌++◌, length, Some, None, Option as Answer, Ordering, Less, Equal, Greater, sym, refl, ap, ◌∙◌, subst, arith, Bor}
 use mathlib.Core.Option.{Option, none, some}
 use Rattle.std.proofs.lemmas.Bool.Decides.{nat_tests}
-use Rattle.std.proofs.lemmas.List.{drop_more, drop_all}
 use Rattle.values.specs.Values.{Name, same_name, before, mapped}
 use Rattle.values.specs.Limits.{fit}
 use Rattle.values.specs.Order.{order}
 use Rattle.trees.specs.declared.parts.Parts.{Parts}
 use Rattle.trees.specs.Cuts.{Cuts}
 use Rattle.trees.specs.Files.{push, split, all_fit}
-use Rattle.trees.specs.Contents.{answer}
 use Rattle.trees.specs.Paths.{shared}
-use Rattle.trees.proofs.Splits.{no, both, split_some}
+use Rattle.trees.proofs.Splits.{split_some}
 use Rattle.trees.proofs.Cutting.{rest_parts, cut_splits, cut_shorter}
 
 -- the parts of what was cut, the last one, and one of more

@@ -1,14 +1,12 @@
 -- A line cut at its tabs. Assumes nothing.
-use Rattle.std.proofs.Common.{◌≡◌, ℕ, Bool, true, false, cond, List, [], ◌∷◌, ◌++◌, Some, None, Option as Answer, sym, refl, ap, ◌∙◌, append-nil, arith, Bor}
-use mathlib.Core.Option.{Option, none, some}
-use Rattle.values.specs.Values.{Name, same_name, mapped}
+use Rattle.std.proofs.Common.{◌≡◌, ℕ, List, ◌∷◌, ◌++◌, Some, None, Option as Answer, sym, ap, ◌∙◌, append-nil, Bor}
+use mathlib.Core.Option.{none}
+use Rattle.values.specs.Values.{mapped}
 use Rattle.trees.specs.declared.parts.Parts.{Parts}
-use Rattle.trees.specs.declared.lines.RawLeaf.{RawLeaf}
-use Rattle.trees.specs.Lines.{Leaf, Line, line}
-use Rattle.trees.specs.Cuts.{free, behind, Cuts}
+use Rattle.trees.specs.Lines.{line}
+use Rattle.trees.specs.Cuts.{behind, Cuts}
 use Rattle.trees.specs.Files.{split, all_fit, when, leaf_of, line_from, line_of}
-use Rattle.trees.specs.Raw.{raw_leaf, read_leaf}
-use Rattle.trees.proofs.Splits.{split_some, split_free}
+use Rattle.trees.proofs.Splits.{split_some}
 use Rattle.trees.proofs.Order.{parts_of}
 
 pub no_kind : (bs : List ℕ) (a : Parts) → Cuts 9 bs a → a.rest ≡ None → none ≡ line_of bs

@@ -1,16 +1,16 @@
 -- Lines as bytes, and files. Assumes nothing.
-use Rattle.std.proofs.Common.{◌≡◌, ℕ, zero, suc, ◌+◌, ◌<◌, ◌≤◌, Bool, true, false, cond, not, ◌&&◌, ◌||◌, eqb, leb, List, [], ◌∷◌, ◌++◌, map, length, sym, refl, ap, ◌∙◌, subst, append_assoc, append-nil, arith}
+use Rattle.std.proofs.Common.{◌≡◌, ℕ, ◌+◌, ◌≤◌, Bool, true, false, cond, not, ◌&&◌, eqb, leb, List, [], ◌∷◌, ◌++◌, map, length, sym, refl, ap, ◌∙◌, arith}
 use mathlib.Core.Option.{Option, none, some}
 use Rattle.std.proofs.lemmas.Bool.Decides.{nat_tests}
-use Rattle.values.specs.Values.{Name, Value, text, truth, binding, Members, nil, cons, same_name, and_then, mapped}
+use Rattle.values.specs.Values.{Name, Value, text, truth, binding, Members, nil, cons, same_name, mapped}
 use Rattle.values.specs.Limits.{dots, all_ordered, name_byte, name_bytes, fit, named, all_named}
 use Rattle.trees.specs.Lines.{Leaf, text_leaf, truth_leaf, empty_leaf, Line, line, below, lines, some_lines, lines_of, Read, ok, bad, after, step, fill, within}
 use Rattle.trees.specs.Cuts.{free}
-use Rattle.trees.specs.Files.{split, joined, escape, plain, unescape, all_fit, kind_mark, content, true_word, false_word, line_bytes, when, leaf_of, line_from, line_of, File, done, refused, on_step, on_line, read_from, read_tree, written, listing}
+use Rattle.trees.specs.Files.{split, joined, plain, unescape, all_fit, kind_mark, content, true_word, false_word, line_bytes, when, leaf_of, line_from, line_of, done, refused, on_step, on_line, read_from, read_tree, written, listing}
 use Rattle.values.proofs.Sameness.{name_test}
 use Rattle.trees.proofs.Listed.{fill_lines}
 use Rattle.trees.proofs.Made.{read_back}
-use Rattle.trees.proofs.Splits.{no, both, both_hold, all_free, split_front, split_free, split_joined, joined_split, free_name, free_both, free_joined, free_escape, unescape_escape, escape_unescape}
+use Rattle.trees.proofs.Splits.{no, both, both_hold, all_free, split_front, split_joined, joined_split, free_name, free_joined, free_escape, unescape_escape, escape_unescape}
 
 pub never : {P A : Type 0} {a : A} → none ≡ some a → P
 never e = let z : ◌≡◌ {A = ℕ} 0 1 = cc in absurd (omega arith)

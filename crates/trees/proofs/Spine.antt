@@ -1,14 +1,13 @@
 -- A line put behind others, by the path and the counts of the last line alone. Assumes nothing.
-use Rattle.std.proofs.Common.{◌≡◌, ℕ, zero, suc, ◌+◌, ◌<◌, ◌≤◌, max, Bool, true, false, cond, ◌&&◌, eqb, leb, List, [], ◌∷◌, ◌++◌, length, get_or, sym, refl, ap, ◌∙◌, subst, arith}
+use Rattle.std.proofs.Common.{◌≡◌, ℕ, zero, suc, ◌+◌, max, Bool, true, false, cond, ◌&&◌, leb, List, [], ◌∷◌, length, get_or, sym, refl, ap, ◌∙◌, subst, arith}
 use mathlib.Core.Option.{Option, none, some}
-use Rattle.std.proofs.lemmas.Bool.Decides.{nat_tests}
 use Rattle.values.specs.Values.{Name, Value, text, truth, binding, Members, nil, cons, same_name, before, mapped}
 use Rattle.values.specs.Limits.{many, height, heights, small, all_small}
-use Rattle.trees.specs.Lines.{Leaf, text_leaf, truth_leaf, empty_leaf, leaf_value, Read, ok, bad, after, chain, at_end, put, into, within}
+use Rattle.trees.specs.Lines.{Leaf, text_leaf, truth_leaf, empty_leaf, ok, bad, after, chain, at_end, put, into}
 use Rattle.trees.specs.Paths.{shared}
 use Rattle.trees.specs.Progress.{last_path, value_path, deeper_counts, value_counts, counts, place_behind, leaf_height, leaf_small, ones, bumped}
 use Rattle.values.proofs.Sameness.{name_test}
-use Rattle.trees.proofs.Splits.{no, both, both_hold}
+use Rattle.trees.proofs.Splits.{both}
 use Rattle.trees.proofs.Order.{shared_end}
 
 -- a path where nothing was

@@ -1,11 +1,11 @@
 -- Parts and separators, escapes. Assumes nothing.
-use Rattle.std.proofs.Common.{◌≡◌, ℕ, zero, suc, ◌+◌, ◌<◌, ◌≤◌, Bool, true, false, cond, not, ◌&&◌, ◌||◌, eqb, leb, List, [], ◌∷◌, ◌++◌, map, length, sym, refl, ap, ◌∙◌, subst, append_assoc, append-nil, arith}
+use Rattle.std.proofs.Common.{◌≡◌, ℕ, Bool, true, false, cond, not, ◌&&◌, eqb, List, [], ◌∷◌, ◌++◌, sym, refl, ap, ◌∙◌, arith}
 use mathlib.Core.Option.{Option, none, some}
 use Rattle.std.proofs.lemmas.Bool.Decides.{nat_tests}
-use Rattle.values.specs.Values.{Name, and_then}
+use Rattle.values.specs.Values.{and_then}
 use Rattle.values.specs.Limits.{name_byte, name_bytes}
 use Rattle.trees.specs.Cuts.{free}
-use Rattle.trees.specs.Files.{push, split, joined, escape, meant, plain, prefixed, unescape, paired}
+use Rattle.trees.specs.Files.{push, split, joined, escape, plain, prefixed, unescape, paired}
 
 pub no : {P : Type 0} → true ≡ false → P
 no e = let z : ◌≡◌ {A = ℕ} 0 1 = cc in absurd (omega arith)

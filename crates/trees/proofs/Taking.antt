@@ -1,11 +1,11 @@
 -- A line taken up behind others: what the tests in the code say of the definition. Assumes nothing.
-use Rattle.std.proofs.Common.{◌≡◌, ℕ, zero, suc, ◌+◌, ◌-◌, ◌<◌, ◌≤◌, max, Bool, true, false, cond, ◌&&◌, leb, List, [], ◌∷◌, ◌++◌, length, get_or, take, drop, replicate, IfSome, Some, None, Option as Answer, sym, refl, ap, ◌∙◌, subst, arith, Bor}
+use Rattle.std.proofs.Common.{◌≡◌, ℕ, zero, suc, ◌+◌, ◌-◌, ◌<◌, ◌≤◌, max, Bool, true, false, cond, ◌&&◌, leb, List, [], ◌∷◌, ◌++◌, length, get_or, take, replicate, IfSome, Some, None, Option as Answer, sym, refl, ap, ◌∙◌, subst, arith, Bor}
 use mathlib.Core.Option.{Option, none, some}
 use Rattle.std.proofs.lemmas.Bool.Decides.{nat_tests}
-use Rattle.std.proofs.lemmas.List.{get_or-take, take-take, length-append, length-replicate}
+use Rattle.std.proofs.lemmas.List.{get_or-take, take-take, length-replicate}
 use Rattle.values.specs.Values.{Name, Value, text, truth, binding, Members, nil, cons, same_name, before, mapped}
-use Rattle.values.specs.Limits.{many, height, heights, small, all_small}
-use Rattle.trees.specs.Lines.{at_end, Leaf, Line, line, Read, ok, bad, after, put, within, step}
+use Rattle.values.specs.Limits.{height, heights, small}
+use Rattle.trees.specs.Lines.{at_end, Leaf, line, ok, bad, after, put, within, step}
 use Rattle.trees.specs.Files.{split}
 use Rattle.trees.specs.Contents.{answer}
 use Rattle.trees.specs.Paths.{shared}
@@ -13,7 +13,7 @@ use Rattle.trees.specs.Progress.{last_path, value_path, deeper_counts, value_cou
 use Rattle.trees.specs.Laws.{LinesAscend}
 use Rattle.trees.specs.Following.{placed, Last, Follows}
 use Rattle.trees.specs.declared.progress.Progress.{Progress}
-use Rattle.trees.proofs.Splits.{no, both, both_hold, split_some}
+use Rattle.trees.proofs.Splits.{both, split_some}
 use Rattle.trees.proofs.Spine.{Grown, Outcome, puts, few_here}
 
 -- the paths part within both

@@ -1,5 +1,5 @@
 -- What reading the content of a text line answers. Assumes nothing.
-use Rattle.std.specs.Prelude.{◌≡◌, ℕ, ◌+◌, ◌<◌, List, [], ◌∷◌, length, Some, None, Option as Answer}
+use Rattle.std.specs.Prelude.{◌≡◌, ℕ, ◌+◌, ◌<◌, List, [], length, Some, None, Option as Answer}
 use Rattle.std.proofs.Math.Option.{Option, none, some}
 use Rattle.trees.specs.Files.{unescape, meant, prefixed}
 use Rattle.trees.specs.declared.escapes.Front.{Front}

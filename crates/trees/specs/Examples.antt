@@ -1,6 +1,6 @@
 -- Examples of tree files. Assumes nothing.
-use Rattle.std.specs.Prelude.{◌≡◌, ℕ, true, false, List, [], ◌∷◌, ◌++◌, codes}
-use Rattle.values.specs.Values.{Members, nil, cons, text, truth, binding}
+use Rattle.std.specs.Prelude.{◌≡◌, ℕ, true, List, [], ◌∷◌, ◌++◌, codes}
+use Rattle.values.specs.Values.{nil, cons, text, truth, binding}
 use Rattle.trees.specs.Files.{read_tree, accepted, done, refused}
 
 abbrev tab : List ℕ

@@ -1,10 +1,10 @@
 -- Tree files as bytes: how a line is written and read, a file read line by line, a value listed. Assumes nothing.
 -- Bytes by their numbers: tab 9, line feed 10, `.` 46, `/` 47, backslash 92; the kinds `b` 98, `e` 101, `t` 116.
-use Rattle.std.specs.Prelude.{◌≡◌, ℕ, ◌+◌, Bool, true, false, cond, not, ◌&&◌, ◌||◌, List, [], ◌∷◌, ◌++◌, map, length, ◌==◌, nat_le}
+use Rattle.std.specs.Prelude.{ℕ, ◌+◌, Bool, true, false, cond, ◌&&◌, List, [], ◌∷◌, ◌++◌, length, ◌==◌, nat_le}
 use Rattle.std.proofs.Math.Option.{Option, none, some}
-use Rattle.values.specs.Values.{Name, Value, text, truth, binding, Members, nil, cons, same_name, and_then, mapped}
+use Rattle.values.specs.Values.{Name, Value, text, truth, binding, Members, nil, same_name, and_then, mapped}
 use Rattle.values.specs.Limits.{fit}
-use Rattle.trees.specs.Lines.{Leaf, text_leaf, truth_leaf, empty_leaf, Line, line, lines, lines_of, Read, ok, bad, step}
+use Rattle.trees.specs.Lines.{Leaf, text_leaf, truth_leaf, empty_leaf, Line, line, lines_of, Read, ok, bad, step}
 
 -- one byte more at the front of the first part
 abbrev pub push : ℕ → List (List ℕ) → List (List ℕ)

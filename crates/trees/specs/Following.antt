@@ -1,5 +1,5 @@
 -- Progress in memory. Assumes nothing.
-use Rattle.std.specs.Prelude.{◌≡◌, ℕ, true, List, [], length, take, Some, None, Ok, Err, Option as Answer, Result}
+use Rattle.std.specs.Prelude.{◌≡◌, ℕ, true, List, length, take, Some, None, Ok, Err, Option as Answer, Result}
 use Rattle.std.proofs.Math.Option.{Option, none, some}
 use Rattle.std.specs.Borrow.{Bor}
 use Rattle.values.specs.Values.{Name, Members, nil}

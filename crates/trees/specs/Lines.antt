@@ -1,5 +1,5 @@
 -- The lines of a tree, and the binding that lines make. Assumes nothing.
-use Rattle.std.specs.Prelude.{◌≡◌, ℕ, suc, ◌+◌, Bool, true, false, cond, ◌&&◌, List, [], ◌∷◌, ◌++◌, map, length, nat_le}
+use Rattle.std.specs.Prelude.{ℕ, Bool, cond, ◌&&◌, List, [], ◌∷◌, ◌++◌, map, nat_le}
 use Rattle.values.specs.Values.{Name, Value, text, truth, binding, Members, nil, cons, same_name, before}
 use Rattle.values.specs.Limits.{height, small}
 

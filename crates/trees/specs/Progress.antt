@@ -1,5 +1,5 @@
 -- What a reader keeps of the lines read so far: the path of the last line, and how many members each binding along it has. Assumes nothing.
-use Rattle.std.specs.Prelude.{◌≡◌, ℕ, zero, suc, ◌+◌, Bool, true, ◌&&◌, List, [], ◌∷◌, length, nat_le}
+use Rattle.std.specs.Prelude.{ℕ, zero, suc, ◌+◌, Bool, true, ◌&&◌, List, [], ◌∷◌, length, nat_le}
 use Rattle.std.proofs.Math.Option.{Option, some}
 use Rattle.values.specs.Values.{Name, Value, text, truth, binding, Members, nil, cons}
 use Rattle.values.specs.Limits.{many}

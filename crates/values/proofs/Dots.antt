@@ -1,6 +1,5 @@
 -- Telling `.` and `..` by length and bytes. Assumes nothing.
-use Rattle.std.proofs.Common.{◌≡◌, ℕ, Bool, true, false, ◌&&◌, ◌||◌, eqb, List, [], ◌∷◌, length, get_or, sym, refl, ap, ◌∙◌, arith}
-use Rattle.std.proofs.lemmas.Bool.Decides.{nat_tests}
+use Rattle.std.proofs.Common.{◌≡◌, ℕ, Bool, true, false, ◌&&◌, ◌||◌, eqb, List, [], ◌∷◌, length, get_or, refl, arith}
 use Rattle.values.specs.Limits.{dots}
 
 pub one_dot : (s : List ℕ) → length s ≡ 1 → eqb (get_or s 0 0) 46 ≡ dots s

@@ -1,7 +1,7 @@
 -- Worked examples of values, names and the table. Assumes nothing.
-use Rattle.std.specs.Prelude.{◌≡◌, ℕ, zero, suc, true, false, List, [], ◌∷◌, replicate, codes}
-use Rattle.std.proofs.Math.Option.{Option, none, some}
-use Rattle.values.specs.Values.{Value, text, truth, binding, Members, nil, cons, kind, texts, bindings, before, look}
+use Rattle.std.specs.Prelude.{◌≡◌, ℕ, zero, suc, true, false, [], ◌∷◌, replicate, codes}
+use Rattle.std.proofs.Math.Option.{none, some}
+use Rattle.values.specs.Values.{Value, text, truth, binding, nil, cons, kind, texts, bindings, before, look}
 use Rattle.values.specs.Limits.{fit, height, proper}
 use Rattle.values.specs.Table.{Table, entered}
 

@@ -1,5 +1,5 @@
 -- What makes a value proper: fit names in order, and the limits of texts, members and heights. Assumes nothing.
-use Rattle.std.specs.Prelude.{ℕ, suc, max, Bool, true, false, not, ◌&&◌, ◌||◌, List, [], ◌∷◌, length, ◌==◌, nat_le}
+use Rattle.std.specs.Prelude.{ℕ, suc, max, Bool, true, not, ◌&&◌, ◌||◌, List, [], ◌∷◌, length, ◌==◌, nat_le}
 use Rattle.values.specs.Values.{Name, Value, text, truth, binding, Members, nil, cons, same_name, before}
 
 -- letters, digits, `_`, `.` and `-`

@@ -1,5 +1,4 @@
 use Rattle.std.proofs.Common.{◌≡◌, ◌+◌, ◌-◌, ◌/◌, ◌<◌, ◌≤◌, length, arith}
-use Rattle.ordered.specs.Climbing.{LessTo, MoreFrom}
 use Rattle.ordered.proofs.Climbs.{less_to, more_from}
 use Rattle.ordered.proofs.find.Goals as goal
 

@@ -1,6 +1,6 @@
-use Rattle.std.proofs.Common.{◌≡◌, ◌+◌, ◌<◌, ◌≤◌, true, cond, length, is_ok, Ok, Err, vec_items, vec_len, vec_capacity, sym, refl, ap, ◌∙◌, subst, arith, rules}
+use Rattle.std.proofs.Common.{◌≡◌, ◌<◌, Ok, Err, vec_items, vec_len, vec_capacity, sym, refl, subst, arith}
 use Rattle.std.specs.List.{insert}
-use Rattle.ordered.specs.Climbing.{Climbs, Found, Inserts}
+use Rattle.ordered.specs.Climbing.{Climbs, Found}
 use Rattle.std.proofs.ResultArms.{chosen}
 use Rattle.ordered.proofs.Shifts.{put_in}
 use Rattle.ordered.proofs.Climbs.{climbs_put}
@@ -9,7 +9,7 @@ use Rattle.ordered.proofs.insert.Goals as goal
 pub returns-in-Ok : goal.returns-in-Ok
 returns-in-Ok g c = record {
   inserted = λ o up.
-      let same = c.as-slice.ensures.value in
+      let same = c.as_slice.ensures.value in
       let f = subst (λ l. Found g.K.Ord.cmp l c.args.key (Ok c.in-Ok.field-0)) same (c.in-Ok.ensures.found o (subst (Climbs g.K.Ord.cmp) (sym same) up)) in
       (refl, λ _. (c.in-Ok.field-0, f));
   len = omega arith;
@@ -22,7 +22,7 @@ returns-in-Err g c =
     let ok = c.insert.ensures.succeeds room in
     record {
       inserted = λ o up.
-          let same = c.as-slice.ensures.value in
+          let same = c.as_slice.ensures.value in
           let xs = vec_items c.args.keys.now in
           let i = c.in-Err.i in
           let k = c.args.key in

@@ -1,4 +1,4 @@
-use Rattle.std.proofs.Common.{◌≡◌, ℕ, ◌≤◌, Less, Greater, sym, ap, ◌∙◌, arith}
+use Rattle.std.proofs.Common.{◌≡◌, ℕ, arith}
 use Rattle.ordered.proofs.Climbs.{stands_at}
 use Rattle.ordered.proofs.place.Goals as goal
 

@@ -4,6 +4,6 @@ use Rattle.caches.proofs.instances.first_in_two.Goals as goal
 
 pub returns : goal.returns
 returns c = record {
-  product = c.first-product.ensures.product;
-  far = ⊎_elim (λ near. ap keeper_held near.2) (λ far. far.1.1) c.first-product.ensures.exactly;
+  product = c.first_product.ensures.product;
+  far = ⊎_elim (λ near. ap keeper_held near.2) (λ far. far.1.1) c.first_product.ensures.exactly;
 }

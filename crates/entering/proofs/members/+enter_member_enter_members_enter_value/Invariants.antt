@@ -5,20 +5,20 @@ use Rattle.entering.specs.Levels.{Level}
 use Rattle.entering.proofs.Turning.{Turn}
 use Rattle.entering.proofs.members.+enter_member_enter_members_enter_value.Given as goal
 
-abbrev pub decreases-enter-value : goal.decreases-enter-value
-decreases-enter-value l = 3 * l.levels
+abbrev pub decreases-enter_value : goal.decreases-enter_value
+decreases-enter_value l = 3 * l.levels
 
-abbrev pub decreases-enter-member : goal.decreases-enter-member
-decreases-enter-member l = 3 * l.levels + 1
+abbrev pub decreases-enter_member : goal.decreases-enter_member
+decreases-enter_member l = 3 * l.levels + 1
 
-abbrev pub decreases-enter-members : goal.decreases-enter-members
-decreases-enter-members l = 3 * l.levels + 2
+abbrev pub decreases-enter_members : goal.decreases-enter_members
+decreases-enter_members l = 3 * l.levels + 2
 
 -- the members entered so far, and those to come
-abbrev pub invariant-enter-members-loop-table : goal.invariant-enter-members-loop-table
-invariant-enter-members-loop-table l =
+abbrev pub invariant-enter_members-loop-table : goal.invariant-enter_members-loop-table
+invariant-enter_members-loop-table l =
     (length l.members ≡ 64) × (l.count ≤ 64)
     × ((ms : Members) (after : List ℕ) → Level l.prefix l.bytes l.levels ms after → Turn (values l.initial.table) l.prefix l.left l.levels (values l.table) (take l.count l.members) ms after)
 
-abbrev pub decreases-enter-members-loop-table : goal.decreases-enter-members-loop-table
-decreases-enter-members-loop-table l = length l.left
+abbrev pub decreases-enter_members-loop-table : goal.decreases-enter_members-loop-table
+decreases-enter_members-loop-table l = length l.left

@@ -13,21 +13,21 @@ returns c =
     let T = values c.args.table.now in
     let v = content_value T c.in-Some.content in
     let old = c.args.buffer.now in
-    let mid = c.run-pass.new.buffer in
-    let new = c.run-pass-2.new.buffer in
+    let mid = c.run_pass.new.buffer in
+    let new = c.run_pass-2.new.buffer in
     record {
-      written = subst (λ o. Lists o old c.run-pass-2.result new) c.in-Some.ensures.is (listed v old mid new c.in-ok-run-pass.field-0 c.run-pass-2.result c.in-ok-run-pass.ensures c.run-pass-2.ensures);
-      reads-back = λ ms e h. reads_proper ms (c.in-Some.ensures.proper (binding ms) e) h;
+      written = subst (λ o. Lists o old c.run_pass-2.result new) c.in-Some.ensures.is (listed v old mid new c.in_ok-run_pass.field-0 c.run_pass-2.result c.in_ok-run_pass.ensures c.run_pass-2.ensures);
+      reads_back = λ ms e h. reads_proper ms (c.in-Some.ensures.proper (binding ms) e) h;
     }
 
-pub returns-in-err-run-pass : goal.returns-in-err-run-pass
-returns-in-err-run-pass c =
+pub returns-in_err-run_pass : goal.returns-in_err-run_pass
+returns-in_err-run_pass c =
     let T = values c.args.table.now in
     let v = content_value T c.in-Some.content in
     let old = c.args.buffer.now in
-    let new = c.run-pass.new.buffer in
-    let p = err_from_is_err_and c.from-residual.result c.from-residual.ensures.1 in
+    let new = c.run_pass.new.buffer in
+    let p = err_from_is_err_and c.from_residual.result c.from_residual.ensures.1 in
     record {
-      written = subst (λ o. Lists o old c.from-residual.result new) c.in-Some.ensures.is (subst (λ r. Lists (some v) old r new) (sym (p.1 ∙ ap Err p.2)) (unlisted v old new c.in-err-run-pass.field-0.0 c.in-err-run-pass.ensures));
-      reads-back = λ ms e h. reads_proper ms (c.in-Some.ensures.proper (binding ms) e) h;
+      written = subst (λ o. Lists o old c.from_residual.result new) c.in-Some.ensures.is (subst (λ r. Lists (some v) old r new) (sym (p.1 ∙ ap Err p.2)) (unlisted v old new c.in_err-run_pass.field-0.0 c.in_err-run_pass.ensures));
+      reads_back = λ ms e h. reads_proper ms (c.in-Some.ensures.proper (binding ms) e) h;
     }

@@ -10,10 +10,10 @@ loop-byte-init c = nothing c.args.out.now c.requires
 
 pub loop-byte-preserved : goal.loop-byte-preserved
 loop-byte-preserved c =
-    more (λ b. escape (b ∷ [])) c.args.text.now c.loop-byte.byte-index 0 c.loop-byte-test.true c.loop-byte.invariant c.in-ok-put-byte.ensures
+    more (λ b. escape (b ∷ [])) c.args.text.now c.loop-byte.byte-index 0 c.loop-byte-test.true c.loop-byte.invariant c.in_ok-put_byte.ensures
 
-pub put-byte-requires : goal.put-byte-requires
-put-byte-requires c = c.loop-byte.invariant.fits
+pub put_byte-requires : goal.put_byte-requires
+put_byte-requires c = c.loop-byte.invariant.fits
 
 pub returns : goal.returns
 returns c =
@@ -21,9 +21,9 @@ returns c =
     subst (λ l. Grows c.args.out.now l c.loop-byte.out) (escape_flat xs)
     (all (λ b. escape (b ∷ [])) xs c.loop-byte.byte-index c.loop-byte-test.false c.loop-byte.invariant)
 
-pub returns-in-err-put-byte : goal.returns-in-err-put-byte
-returns-in-err-put-byte c =
+pub returns-in_err-put_byte : goal.returns-in_err-put_byte
+returns-in_err-put_byte c =
     let xs = c.args.text.now in
-    stops c.args.out.now c.put-byte.new.out (escape xs) c.from-residual.result c.from-residual.ensures.0
-    (subst (λ l. Lacks c.args.out.now l c.put-byte.new.out) (escape_flat xs)
-    (lacks (λ b. escape (b ∷ [])) xs c.loop-byte.byte-index 0 c.loop-byte-test.true c.loop-byte.invariant c.in-err-put-byte.ensures))
+    stops c.args.out.now c.put_byte.new.out (escape xs) c.from_residual.result c.from_residual.ensures.0
+    (subst (λ l. Lacks c.args.out.now l c.put_byte.new.out) (escape_flat xs)
+    (lacks (λ b. escape (b ∷ [])) xs c.loop-byte.byte-index 0 c.loop-byte-test.true c.loop-byte.invariant c.in_err-put_byte.ensures))

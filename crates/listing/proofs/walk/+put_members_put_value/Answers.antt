@@ -16,45 +16,45 @@ use Rattle.listing.proofs.walk.+put_members_put_value.Goals as goal
 abbrev no_member : Member
 no_member = record { name = 0; value = 0 }
 
-pub put-members-loop-member-init : goal.put-members-loop-member-init
-put-members-loop-member-init t c = nothing c.args.out.now c.requires.room
+pub put_members-loop-member-init : goal.put_members-loop-member-init
+put_members-loop-member-init t c = nothing c.args.out.now c.requires.room
 
-pub put-members-put-value-requires : goal.put-members-put-value-requires
-put-members-put-value-requires t c =
+pub put_members-put_value-requires : goal.put_members-put_value-requires
+put_members-put_value-requires t c =
     let T = values c.args.table.now in
     let ms = c.args.members.now in
     let i = c.loop-member.member-index in
     let low = member_height T ms i no_member c.loop-member-test.true in
     (omega arith, (c.loop-member.invariant.fits, (member_known T ms i no_member c.requires.known c.loop-member-test.true, omega (arith, low))))
 
-pub put-members-returns-in-err-put-value : goal.put-members-returns-in-err-put-value
-put-members-returns-in-err-put-value t c =
+pub put_members-returns-in_err-put_value : goal.put_members-returns-in_err-put_value
+put_members-returns-in_err-put_value t c =
     let s = c.args.out.now in
-    let u = c.put-value.new.out in
+    let u = c.put_value.new.out in
     let T = values c.args.table.now in
     let ms = c.args.members.now in
     let p = spellings T (numbers c.args.path) in
     let i = c.loop-member.member-index in
     let m = get_or ms i no_member in
-    stops s u (written (map (deeper p) (lines_of (members_of T ms)))) c.from-residual.result c.from-residual.ensures.0
+    stops s u (written (map (deeper p) (lines_of (members_of T ms)))) c.from_residual.result c.from_residual.ensures.0
     (subst (λ l. Lacks s l u) (members_flat T p ms)
     (lacks (member_bytes T p) ms {s = s} {t = c.loop-member.out} {u = u} i no_member c.loop-member-test.true c.loop-member.invariant
-    (subst (λ q. Lacks c.loop-member.out (value_bytes q (under T m.value)) u) (path_below T (numbers c.args.path) (numbers c.below.result) m.name c.below.ensures.names) c.in-err-put-value.ensures)))
+    (subst (λ q. Lacks c.loop-member.out (value_bytes q (under T m.value)) u) (path_below T (numbers c.args.path) (numbers c.below.result) m.name c.below.ensures.names) c.in_err-put_value.ensures)))
 
-pub put-members-loop-member-preserved : goal.put-members-loop-member-preserved
-put-members-loop-member-preserved t c =
+pub put_members-loop-member-preserved : goal.put_members-loop-member-preserved
+put_members-loop-member-preserved t c =
     let s = c.args.out.now in
-    let u = c.put-value.new.out in
+    let u = c.put_value.new.out in
     let T = values c.args.table.now in
     let ms = c.args.members.now in
     let p = spellings T (numbers c.args.path) in
     let i = c.loop-member.member-index in
     let m = get_or ms i no_member in
     more (member_bytes T p) ms {s = s} {t = c.loop-member.out} {u = u} i no_member c.loop-member-test.true c.loop-member.invariant
-    (subst (λ q. Grows c.loop-member.out (value_bytes q (under T m.value)) u) (path_below T (numbers c.args.path) (numbers c.below.result) m.name c.below.ensures.names) c.in-ok-put-value.ensures)
+    (subst (λ q. Grows c.loop-member.out (value_bytes q (under T m.value)) u) (path_below T (numbers c.args.path) (numbers c.below.result) m.name c.below.ensures.names) c.in_ok-put_value.ensures)
 
-pub put-members-returns : goal.put-members-returns
-put-members-returns t c =
+pub put_members-returns : goal.put_members-returns
+put_members-returns t c =
     let s = c.args.out.now in
     let u = c.loop-member.out in
     let T = values c.args.table.now in
@@ -63,46 +63,46 @@ put-members-returns t c =
     subst (λ l. Grows s l u) (members_flat T p ms)
     (all (member_bytes T p) ms {s = s} {t = u} c.loop-member.member-index c.loop-member-test.false c.loop-member.invariant)
 
-pub put-value-unreachable-requires : goal.put-value-unreachable-requires
-put-value-unreachable-requires t c = never_none (values c.args.table.now) c.args.number c.requires.known c.in-default.ensures.is
+pub put_value-unreachable-requires : goal.put_value-unreachable-requires
+put_value-unreachable-requires t c = never_none (values c.args.table.now) c.args.number c.requires.known c.in_default.ensures.is
 
-pub put-value-put-members-requires : goal.put-value-put-members-requires
-put-value-put-members-requires t c =
+pub put_value-put_members-requires : goal.put_value-put_members-requires
+put_value-put_members-requires t c =
     let T = values c.args.table.now in
     let a = c.in-Some.content in
-    let ms = c.members-in-members.result.now in
-    let is : ms ≡ held a = c.members-in-members.ensures in
+    let ms = c.members_in-members.result.now in
+    let is : ms ≡ held a = c.members_in-members.ensures in
     let some : 0 < length ms = grind (arith, nat_tests) in
     let here = shown_under T c.args.number a c.requires.known c.in-Some.ensures.is in
     let high = (node_lines T a (subst (λ l. 0 < length l) is some)).1 in
     let same = ap (λ l. heights (members_of T l)) is in
     (omega arith, (c.requires.room, (subst (λ l. known T l ≡ _) (sym is) (held_known T a c.in-Some.ensures.known), omega (arith, same, high, ap height here))))
 
-pub put-value-returns-then-is-empty : goal.put-value-returns-then-is-empty
-put-value-returns-then-is-empty t c =
+pub put_value-returns-then-is_empty : goal.put_value-returns-then-is_empty
+put_value-returns-then-is_empty t c =
     let s = c.args.out.now in
-    let u = c.put-line.new.out in
+    let u = c.put_line.new.out in
     let T = values c.args.table.now in
     let p = spellings T (numbers c.args.path) in
     let a = c.in-Some.content in
-    let ms = c.members-in-members.result.now in
-    let is : ms ≡ held a = c.members-in-members.ensures in
+    let ms = c.members_in-members.result.now in
+    let is : ms ≡ held a = c.members_in-members.ensures in
     let none : length ms ≡ 0 = grind (arith, nat_tests) in
     let here = shown_under T c.args.number a c.requires.known c.in-Some.ensures.is in
-    subst (λ l. Puts s l c.put-line.result u) (leaf_line T p a (subst (λ l. length l ≡ 0) is none) ∙ ap (value_bytes p) here) c.put-line.ensures
+    subst (λ l. Puts s l c.put_line.result u) (leaf_line T p a (subst (λ l. length l ≡ 0) is none) ∙ ap (value_bytes p) here) c.put_line.ensures
 
-pub put-value-returns-else-is-empty : goal.put-value-returns-else-is-empty
-put-value-returns-else-is-empty t c =
+pub put_value-returns-else-is_empty : goal.put_value-returns-else-is_empty
+put_value-returns-else-is_empty t c =
     let s = c.args.out.now in
-    let u = c.put-members.new.out in
+    let u = c.put_members.new.out in
     let T = values c.args.table.now in
     let p = spellings T (numbers c.args.path) in
     let a = c.in-Some.content in
-    let ms = c.members-in-members.result.now in
-    let is : ms ≡ held a = c.members-in-members.ensures in
+    let ms = c.members_in-members.result.now in
+    let is : ms ≡ held a = c.members_in-members.ensures in
     let some : 0 < length ms = grind (arith, nat_tests) in
     let here = shown_under T c.args.number a c.requires.known c.in-Some.ensures.is in
     let body = (node_lines T a (subst (λ l. 0 < length l) is some)).0 in
-    subst (λ l. Puts s l c.put-members.result u)
+    subst (λ l. Puts s l c.put_members.result u)
     (ap (λ l. written (map (deeper p) (lines_of (members_of T l)))) is ∙ ap (λ l. written (map (deeper p) l)) (sym body) ∙ ap (value_bytes p) here)
-    c.put-members.ensures
+    c.put_members.ensures

@@ -12,17 +12,17 @@ use Rattle.listing.proofs.walk.put_listing.Goals as goal
 pub returns-in-Binding : goal.returns-in-Binding
 returns-in-Binding c =
     let s = c.args.out.now in
-    let u = c.put-members.new.out in
+    let u = c.put_members.new.out in
     let T = values c.args.table.now in
     let ls = lines_of (members_of T c.in-Binding.members.now) in
-    subst (λ l. Puts s l c.put-members.result u)
+    subst (λ l. Puts s l c.put_members.result u)
     (ap (λ l. written (map (deeper (spellings T l)) ls)) c.top.ensures.names ∙ ap written (deeper_none ls) ∙ ap (λ l. listing (content_value T l)) (sym c.in-Binding.is))
-    c.put-members.ensures
+    c.put_members.ensures
 
-pub returns-in-ok-put : goal.returns-in-ok-put
-returns-in-ok-put c =
+pub returns-in_ok-put-in_default : goal.returns-in_ok-put-in_default
+returns-in_ok-put-in_default c =
     let s = c.args.out.now in
     let T = values c.args.table.now in
     let a = c.args.content in
     last {s = s} {t = c.put.new.self} c.put_end.new.out (46 ∷ []) (ending (leaf_of a)) (listing (content_value T a)) c.put_end.result
-    (dot_line T a c.in-default.not-Binding) c.in-ok-put.ensures c.put_end.ensures
+    (dot_line T a c.in_default.not-Binding) c.in_ok-put-in_default.ensures c.put_end.ensures

@@ -17,15 +17,15 @@ returns-in-None c =
     let first : get_or l 0 0 ≡ 34 = search rules in
     no_text l long first c.in-None.ensures.counted
 
-pub returns-else-n-gt-MAX-WORD : goal.returns-else-n-gt-MAX-WORD
-returns-else-n-gt-MAX-WORD c =
+pub returns-else-n-gt-MAX_WORD : goal.returns-else-n-gt-MAX_WORD
+returns-else-n-gt-MAX_WORD c =
     let l = c.args.bytes.now in
     let long : 0 < length l = search rules in
-    word_begins l c.name-len-n.result long (sym c.if-is-name-byte.ensures) c.name-len-n.ensures.0 c.if-n-gt-MAX-WORD.false c.name-len-n.ensures.1
+    word_begins l c.name_len-n.result long (sym c.if-is_name_byte.ensures) c.name_len-n.ensures.0 c.if-n-gt-MAX_WORD.false c.name_len-n.ensures.1
 
-pub returns-then-is-sign : goal.returns-then-is-sign
-returns-then-is-sign c =
+pub returns-then-is_sign : goal.returns-then-is_sign
+returns-then-is_sign c =
     let l = c.args.bytes.now in
     let long : 0 < length l = search rules in
     let quote : eqb (get_or l 0 0) 34 ≡ false = search rules in
-    sign_begins l long quote (λ h e f. search rules) (sym c.if-is-name-byte.ensures) (sym c.if-is-sign.ensures)
+    sign_begins l long quote (λ h e f. search rules) (sym c.if-is_name_byte.ensures) (sym c.if-is_sign.ensures)

@@ -1,4 +1,4 @@
-use Rattle.std.proofs.Common.{◌≡◌, length, sym, arith, rules}
+use Rattle.std.proofs.Common.{◌≡◌, length, rules}
 use Rattle.toolrun.proofs.Keeping.{front_of}
 use Rattle.toolrun.proofs.steps.front.Goals as goal
 

@@ -1,4 +1,4 @@
-use Rattle.std.proofs.Common.{◌≡◌, sym, ◌∙◌, arith}
+use Rattle.std.proofs.Common.{sym, ◌∙◌, arith}
 use Rattle.trees.proofs.Order.{shorter}
 use Rattle.tools.specs.Calls.{answers_of}
 use Rattle.tools.proofs.Turns.{choosing_not_yet, choosing_found, choosing_missing}

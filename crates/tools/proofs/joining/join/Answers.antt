@@ -1,4 +1,4 @@
-use Rattle.std.proofs.Common.{◌≡◌, sym, ap, ◌∙◌, arith}
+use Rattle.std.proofs.Common.{sym, ap, ◌∙◌, arith}
 use Rattle.trees.proofs.Order.{shorter}
 use Rattle.tools.specs.Tools.{product}
 use Rattle.tools.specs.Calls.{answers_of, held}
@@ -12,7 +12,7 @@ pub returns-in-Missing : goal.returns-in-Missing
 returns-in-Missing c = sym (joining_missing (held c.loop-piece.text) c.loop-piece.left.now (answers_of c.args.answers) c.loop-piece.position c.cut-paths.result c.cut-paths.ensures c.in-Missing.ensures) ∙ c.loop-piece.invariant.0
 
 pub returns-in-None : goal.returns-in-None
-returns-in-None c = ap product c.as-slice.ensures ∙ sym (joining_more (held c.loop-piece.text) c.loop-piece.left.now (answers_of c.args.answers) c.loop-piece.position c.cut-paths.result _ c.in-Found.piece.now (held c.add.new.self) c.cut-paths.ensures c.in-None.is c.in-Found.ensures c.if-not-add.ensures.0 c.if-not-add.ensures.1) ∙ c.loop-piece.invariant.0
+returns-in-None c = ap product c.as_slice.ensures ∙ sym (joining_more (held c.loop-piece.text) c.loop-piece.left.now (answers_of c.args.answers) c.loop-piece.position c.cut-paths.result _ c.in-Found.piece.now (held c.add.new.self) c.cut-paths.ensures c.in-None.is c.in-Found.ensures c.if-not-add.ensures.0 c.if-not-add.ensures.1) ∙ c.loop-piece.invariant.0
 
 pub returns-then-not-add : goal.returns-then-not-add
 returns-then-not-add c = sym (joining_long (held c.loop-piece.text) c.loop-piece.left.now (answers_of c.args.answers) c.loop-piece.position c.cut-paths.result c.in-Found.piece.now c.cut-paths.ensures c.in-Found.ensures c.if-not-add.ensures.0) ∙ c.loop-piece.invariant.0

@@ -1,4 +1,4 @@
-use Rattle.std.proofs.Common.{arith, rules}
+use Rattle.std.proofs.Common.{arith}
 use Rattle.trees.proofs.Cutting.{free_more, cut_here, cut_nowhere}
 use Rattle.trees.proofs.parts.cut.Goals as goal
 

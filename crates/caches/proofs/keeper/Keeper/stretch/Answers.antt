@@ -11,9 +11,9 @@ returns c =
     let xs = vec_items s.index in
     let start = c.place-start.result in
     let end = c.place-end.result in
-    let same = c.as-slice-index.ensures.value in
+    let same = c.as_slice-index.ensures.value in
     let up = subst (Climbs line_order.cmp) (sym same) (climbing xs s.sorted) in
-    let long = c.as-slice-index.ensures.len in
+    let long = c.as_slice-index.ensures.len in
     spans key xs (vec_len s.slots) 65535 (record { start = start; end = end }) (omega (arith, s.few.0)) s.below
     (omega (arith, c.place-start.ensures.bound, long, s.index.ok.0)) (omega (arith, c.place-end.ensures.bound, long, s.index.ok.0))
     (subst (λ l. Stands line_order.cmp l (line key 0) start) same (c.place-start.ensures.stands line_order up))

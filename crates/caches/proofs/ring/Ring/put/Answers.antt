@@ -10,7 +10,7 @@ returns-then-len-lt-ROOM c =
     let s = c.args.self.now in
     let xs = vec_items s.slots in
     let room : vec_len s.slots < 16 = omega (arith, c.if-len-lt-ROOM.true, c.len.ensures) in
-    ap (λ l. ring_entries (turned s.oldest l)) c.push-reserved.ensures.items
+    ap (λ l. ring_entries (turned s.oldest l)) c.push_reserved.ensures.items
     ∙ ap ring_entries (turned_push xs c.args.slot s.oldest (s.filling room) (omega (arith, room, s.slots.ok.0))) ∙ map_newest ring_entry 16 (turned s.oldest xs) c.args.slot
 
 pub returns-after-self-lt-ROOM : goal.returns-after-self-lt-ROOM

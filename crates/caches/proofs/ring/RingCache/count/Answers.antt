@@ -5,10 +5,10 @@ use Rattle.caches.proofs.ring.RingCache.count.Goals as goal
 pub overflow-add-result : goal.overflow-add-result
 overflow-add-result c =
     let s = c.args.self.now in
-    let h = ring_bound c.args.key (vec_items s.slots) c.split-at.result.1.now c.split-at.result.0.now s.oldest (c.split-at.ensures.back ∙ ap (drop s.oldest) c.as-slice.ensures.value) (c.split-at.ensures.front ∙ ap (take s.oldest) c.as-slice.ensures.value) c.count-in.result c.count-in-2.result c.count-in.ensures c.count-in-2.ensures in
+    let h = ring_bound c.args.key (vec_items s.slots) c.split_at.result.1.now c.split_at.result.0.now s.oldest (c.split_at.ensures.back ∙ ap (drop s.oldest) c.as_slice.ensures.value) (c.split_at.ensures.front ∙ ap (take s.oldest) c.as_slice.ensures.value) c.count_in.result c.count_in-2.result c.count_in.ensures c.count_in-2.ensures in
     omega (arith, h, s.few, s.slots.ok.0)
 
 pub returns : goal.returns
 returns c =
     let s = c.args.self.now in
-    ring_count c.args.key (vec_items s.slots) c.split-at.result.1.now c.split-at.result.0.now s.oldest (c.split-at.ensures.back ∙ ap (drop s.oldest) c.as-slice.ensures.value) (c.split-at.ensures.front ∙ ap (take s.oldest) c.as-slice.ensures.value) c.count-in.result c.count-in-2.result c.count-in.ensures c.count-in-2.ensures
+    ring_count c.args.key (vec_items s.slots) c.split_at.result.1.now c.split_at.result.0.now s.oldest (c.split_at.ensures.back ∙ ap (drop s.oldest) c.as_slice.ensures.value) (c.split_at.ensures.front ∙ ap (take s.oldest) c.as_slice.ensures.value) c.count_in.result c.count_in-2.result c.count_in.ensures c.count_in-2.ensures

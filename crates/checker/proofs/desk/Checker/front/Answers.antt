@@ -1,4 +1,4 @@
-use Rattle.std.proofs.Common.{◌≡◌, ◌-◌, take, vec_items, vec_len, ap, ◌∙◌, arith}
+use Rattle.std.proofs.Common.{◌-◌, take, vec_items, ap, ◌∙◌}
 use Rattle.checker.proofs.Showing.{front_of}
 use Rattle.checker.proofs.desk.Checker.front.Goals as goal
 

@@ -11,7 +11,7 @@ returns c =
     let xs = c.args.bytes.now in
     elim c.match-self.branch [
       | in-Measure w ↦ grown s m xs (omega arith) (ap (λ o. o.pass) w.self-is) (ap (λ o. o.buffer.ghost_name) w.self-is) (ap (λ o. o.buffer.now) w.self-is ∙ ap (λ p. stored p s.buffer.now s.at xs) (sym w.in-Measure.is))
-      | in-Write w ↦ grown s m xs (omega arith) (ap (λ o. o.pass) w.self-is) (ap (λ o. o.buffer.ghost_name) w.self-is) (ap (λ o. o.buffer.now) w.self-is ∙ copied s.pass s.buffer.now xs w.copy-from-slice.new.self s.at w.in-Write.is w.copy-from-slice.ensures.after)
+      | in-Write w ↦ grown s m xs (omega arith) (ap (λ o. o.pass) w.self-is) (ap (λ o. o.buffer.ghost_name) w.self-is) (ap (λ o. o.buffer.now) w.self-is ∙ copied s.pass s.buffer.now xs w.copy_from_slice.new.self s.at w.in-Write.is w.copy_from_slice.ensures.after)
     ]
 
 pub returns-then-bytes-self : goal.returns-then-bytes-self

@@ -1,4 +1,4 @@
-use Rattle.std.proofs.Common.{◌≡◌, Some, None, subst}
+use Rattle.std.proofs.Common.{Some, None, subst}
 use Rattle.tools.specs.Tools.{asked}
 use Rattle.tools.specs.Calls.{answers_of, Tells}
 use Rattle.tools.specs.declared.replies.Reply.TheVariants.{Fetch, Product, Failure}
@@ -32,8 +32,8 @@ returns-in-Failure g c = λ v e.
     let mine = subst (λ x. Tells (ask x) c.args.out.now (Some (Failure c.in-Failure.code)) c.reply.new.out) c.answers.ensures told in
     on_failure v given (ask given) c.args.out.now c.reply.new.out c.in-Failure.code mine
 
-pub returns-in-default : goal.returns-in-default
-returns-in-default g c = λ v e.
+pub returns-in_default : goal.returns-in_default
+returns-in_default g c = λ v e.
     let given = answers c.args.self.now in
     let ask = asked (g.X.Toolbox.tools c.args.toolbox.now) c.args.name.now c.args.command.now in
-    on_none v given (ask given) c.args.out.now c.reply.new.out (subst (λ x. Tells (ask x) c.args.out.now None c.reply.new.out) c.answers.ensures c.in-default.ensures)
+    on_none v given (ask given) c.args.out.now c.reply.new.out (subst (λ x. Tells (ask x) c.args.out.now None c.reply.new.out) c.answers.ensures c.in_default.ensures)

@@ -1,23 +1,20 @@
-use Rattle.std.proofs.Common.{◌≡◌, vec_items, vec_len, sym, refl, ap, ◌∙◌, arith, rules}
+use Rattle.std.proofs.Common.{vec_items, vec_len, refl, ap, ◌∙◌, arith, rules}
 use Rattle.tools.specs.declared.answers.Told.TheVariants.{Nothing}
 use Rattle.toolrun.specs.Told.{all_within, told_bytes}
 use Rattle.toolrun.proofs.Telling.{within_push, bytes_push, nothing_told}
 use Rattle.toolrun.proofs.store.ToolRun.tell_nothing.Goals as goal
 
-pub invariant-of-self : goal.invariant-of-self
-invariant-of-self c =
+pub invariant_of-self : goal.invariant_of-self
+invariant_of-self c =
     let s = c.args.self.now in
     let n = vec_len s.pool in
-    let items = c.push-reserved.ensures.items in (
-      search rules,
-      (
-        search rules,
-        (
-          ap (all_within n) items ∙ within_push n n (vec_items s.told) Nothing (omega arith) s.within refl,
-          (ap told_bytes items ∙ bytes_push (vec_items s.told) Nothing ∙ omega (arith, s.filled), tt),
-        ),
-      ),
-    )
+    let items = c.push_reserved.ensures.items in
+    record {
+      room = search rules;
+      few = search rules;
+      within = ap (all_within n) items ∙ within_push n n (vec_items s.told) Nothing (omega arith) s.within refl;
+      filled = ap told_bytes items ∙ bytes_push (vec_items s.told) Nothing ∙ omega (arith, s.filled);
+    }
 
 pub returns : goal.returns
-returns c = let s = c.args.self.now in nothing_told (vec_items s.pool) (vec_items s.told) _ c.push-reserved.ensures.items
+returns c = let s = c.args.self.now in nothing_told (vec_items s.pool) (vec_items s.told) _ c.push_reserved.ensures.items

@@ -1,4 +1,4 @@
-use Rattle.std.proofs.Common.{◌≡◌, sym, refl, ap, ◌∙◌, arith}
+use Rattle.std.proofs.Common.{sym, ◌∙◌, arith}
 use Rattle.tools.specs.Calls.{meant}
 use Rattle.tools.proofs.Looking.{nth_past, nth_here}
 use Rattle.tools.proofs.answers.Answers.get.Goals as goal

@@ -5,4 +5,4 @@ use Rattle.tools.specs.Sound.{cat_small}
 use Rattle.tools.proofs.joining.CatToolbox.reply.Goals as goal
 
 pub tell-requires : goal.tell-requires
-tell-requires c = subst Small (sym c.cat-step.ensures) (cat_small c.args.command.now (answers_of c.args.answers) (omega arith))
+tell-requires c = subst Small (sym c.cat_step.ensures) (cat_small c.args.command.now (answers_of c.args.answers) (omega arith))

@@ -1,4 +1,4 @@
-use Rattle.std.proofs.Common.{◌≡◌, ◌++◌, length, take, sym, refl, ap, ◌∙◌, arith}
+use Rattle.std.proofs.Common.{◌++◌, length, take, refl, ap, ◌∙◌, arith}
 use Rattle.std.proofs.lemmas.List.{length-append, length-take-le}
 use Rattle.std.proofs.lemmas.Slice.{take-put_mid}
 use Rattle.tools.proofs.text.Text.add.Goals as goal
@@ -11,7 +11,7 @@ returns-then-piece-start c =
 pub returns : goal.returns
 returns c =
     let s = c.args.self.now in
-    let same = c.copy-from-slice.ensures.after in (
+    let same = c.copy_from_slice.ensures.after in (
       omega (arith, length-append (take s.len s.bytes) c.args.piece.now, length-take-le s.len s.bytes (omega arith)),
-      take-put_mid s.len _ s.bytes c.copy-from-slice.new.self _ (omega (arith, ap length same)) (omega arith) ∙ ap (λ l. take s.len s.bytes ++ l) same,
+      take-put_mid s.len _ s.bytes c.copy_from_slice.new.self _ (omega (arith, ap length same)) (omega arith) ∙ ap (λ l. take s.len s.bytes ++ l) same,
     )

@@ -1,4 +1,4 @@
-use Rattle.std.proofs.Common.{◌≡◌, sym, ap, ◌∙◌}
+use Rattle.std.proofs.Common.{sym, ap, ◌∙◌}
 use Rattle.trees.specs.Files.{split}
 use Rattle.trees.specs.Contents.{answer}
 use Rattle.trees.specs.Following.{placed}
@@ -14,5 +14,5 @@ returns-in-None c =
 pub returns-in-Some : goal.returns-in-Some
 returns-in-Some c =
     let p = split 47 c.args.path.now in
-    let e = c.shared-names.ensures ∙ ap (λ l. answer (placed l p)) (sym c.in-Some.is) in
+    let e = c.shared_names.ensures ∙ ap (λ l. answer (placed l p)) (sym c.in-Some.is) in
     record { place = e; within = placed_within c.args.self.now.last c.args.path.now _ e }

@@ -19,5 +19,5 @@ same_next T a b (m ∷ ms) h e f =
 pub returns-in-Equal : goal.returns-in-Equal
 returns-in-Equal c =
     let T = values c.args.self.now in
-    same_next T c.text.result.now c.text-2.result.now c.args.rest.now c.if-is-empty.ensures c.in-Equal.ensures c.text-2.ensures
+    same_next T c.text.result.now c.text-2.result.now c.args.rest.now c.if-is_empty.ensures c.in-Equal.ensures c.text-2.ensures
     ∙ ap (λ n. next_after T n c.args.rest.now) c.text.ensures

@@ -12,8 +12,8 @@ text_in-requires c =
     let t = c.args.self.now in
     omega (arith, t.bytes.ok.0, (text_at t c.args.n c.in-Text.s c.index.result.now c.requires c.index.ensures c.in-Text.is).end)
 
-pub members-in-requires : goal.members-in-requires
-members-in-requires c =
+pub members_in-requires : goal.members_in-requires
+members_in-requires c =
     let t = c.args.self.now in
     omega (arith, t.members.ok.0, (binding_at t c.args.n c.in-Binding.s _ c.index.result.now c.requires c.index.ensures c.in-Binding.is).end)
 
@@ -40,7 +40,7 @@ returns-in-Binding c =
     let t = c.args.self.now in
     let f = binding_at t c.args.n c.in-Binding.s _ c.index.result.now c.requires c.index.ensures c.in-Binding.is in
     record {
-      is = ap (λ p. binding (members_of (values t) p)) c.members-in.ensures ∙ sym f.value;
-      known = ap (known (values t)) c.members-in.ensures ∙ f.known;
-      key = ap binding_key c.members-in.ensures ∙ key_at_node t c.args.n c.index.result.now _ c.requires c.index.ensures c.in-Binding.is;
+      is = ap (λ p. binding (members_of (values t) p)) c.members_in.ensures ∙ sym f.value;
+      known = ap (known (values t)) c.members_in.ensures ∙ f.known;
+      key = ap binding_key c.members_in.ensures ∙ key_at_node t c.args.n c.index.result.now _ c.requires c.index.ensures c.in-Binding.is;
     }

@@ -12,15 +12,15 @@ returns-in-At c =
     let f = c.in-At.ensures in
     short_enters s (values t) (Ok c.in-At.number) (values t) (omega arith) (enters_old (text s) (values t) c.in-At.number (text_found t s c.in-At.number f.0 f.1))
 
-pub returns-then-not-has-room : goal.returns-then-not-has-room
-returns-then-not-has-room c =
+pub returns-then-not-has_room : goal.returns-then-not-has_room
+returns-then-not-has_room c =
     let t = c.args.self.now in
     let s = c.args.text.now in
-    short_enters s (values t) (Err Full) (values t) (omega arith) (enters_full (text s) (values t) (text_missing t s c.in-Missing.place c.in-Missing.ensures) (sym (c.if-not-has-room.ensures.is (text s) refl refl)))
+    short_enters s (values t) (Err Full) (values t) (omega arith) (enters_full (text s) (values t) (text_missing t s c.in-Missing.place c.in-Missing.ensures) (sym (c.if-not-has_room.ensures.is (text s) refl refl)))
 
-pub returns-else-not-has-room : goal.returns-else-not-has-room
-returns-else-not-has-room c =
+pub returns-else-not-has_room : goal.returns-else-not-has_room
+returns-else-not-has_room c =
     let t = c.args.self.now in
     let s = c.args.text.now in
-    short_enters s (values t) (Ok c.push-text.result) (values c.push-text.new.self) (omega arith)
-    (enters_new (text s) (values t) (values c.push-text.new.self) c.push-text.result (text_missing t s c.in-Missing.place c.in-Missing.ensures) (sym (c.if-not-has-room.ensures.is (text s) refl refl)) c.push-text.ensures.after c.push-text.ensures.number)
+    short_enters s (values t) (Ok c.push_text.result) (values c.push_text.new.self) (omega arith)
+    (enters_new (text s) (values t) (values c.push_text.new.self) c.push_text.result (text_missing t s c.in-Missing.place c.in-Missing.ensures) (sym (c.if-not-has_room.ensures.is (text s) refl refl)) c.push_text.ensures.after c.push_text.ensures.number)

@@ -4,8 +4,8 @@ use Rattle.values.proofs.Sameness.{clash}
 use Rattle.values.proofs.Steps.{room_left, no_value_left, no_text_left}
 use Rattle.values.proofs.store.Table.has_room.Goals as goal
 
-pub returns-then-len-ge-MAX-VALUES : goal.returns-then-len-ge-MAX-VALUES
-returns-then-len-ge-MAX-VALUES c = record { is = λ v _ _. no_value_left c.args.self.now v (omega arith); room = λ e. clash (sym e) }
+pub returns-then-len-ge-MAX_VALUES : goal.returns-then-len-ge-MAX_VALUES
+returns-then-len-ge-MAX_VALUES c = record { is = λ v _ _. no_value_left c.args.self.now v (omega arith); room = λ e. clash (sym e) }
 
 pub returns-then-text-len : goal.returns-then-text-len
 returns-then-text-len c = record { is = λ v e _. no_text_left c.args.self.now v c.args.text (omega arith) e; room = λ e. clash (sym e) }

@@ -17,7 +17,7 @@ returns-then-m-len c =
     let T = values c.args.self.now in
     let m = c.args.m in
     let out = le-ltb m.value (length T) (omega (arith, length_of c.args.self.now)) in
-    past_name (ltb m.name (length T)) (is_text (under T m.name)) false c.if-not-is-text.ensures
+    past_name (ltb m.name (length T)) (is_text (under T m.name)) false c.if-not-is_text.ensures
     ∙ ap (λ b. ltb m.name (length T) && (is_text (under T m.name) && (b && fit (spelt (under T m.name))))) (sym out)
 
 pub returns : goal.returns
@@ -25,6 +25,6 @@ returns c =
     let T = values c.args.self.now in
     let m = c.args.m in
     let in_table = lt-ltb m.value (length T) (omega (arith, length_of c.args.self.now)) in
-    c.is-name.ensures ∙ ap fit c.text.ensures
-    ∙ past_name (ltb m.name (length T)) (is_text (under T m.name)) (fit (spelt (under T m.name))) c.if-not-is-text.ensures
+    c.is_name.ensures ∙ ap fit c.text.ensures
+    ∙ past_name (ltb m.name (length T)) (is_text (under T m.name)) (fit (spelt (under T m.name))) c.if-not-is_text.ensures
     ∙ ap (λ b. ltb m.name (length T) && (is_text (under T m.name) && (b && fit (spelt (under T m.name))))) (sym in_table)

@@ -1,4 +1,4 @@
-use Rattle.std.proofs.Common.{sym, ap, ◌∙◌, subst, arith}
+use Rattle.std.proofs.Common.{sym, ap, subst, arith}
 use Rattle.values.specs.Values.{truth, text, binding, and_then, child}
 use Rattle.values.specs.Table.{members_of, Numbered}
 use Rattle.values.specs.Memory.{values}
@@ -20,4 +20,4 @@ pub returns-in-Binding : goal.returns-in-Binding
 returns-in-Binding c =
     let t = c.args.self.now in
     let v = binding (members_of (values t) c.in-Binding.members.now) in
-    subst (λ o. Numbered (values t) o c.member-in.result) (sym (child_of t c.args.n v c.args.name.now (omega arith) c.in-Binding.ensures.is)) c.member-in.ensures
+    subst (λ o. Numbered (values t) o c.member_in.result) (sym (child_of t c.args.n v c.args.name.now (omega arith) c.in-Binding.ensures.is)) c.member_in.ensures

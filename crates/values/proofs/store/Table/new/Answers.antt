@@ -3,16 +3,16 @@ use Rattle.values.specs.Memory.{values}
 use Rattle.values.proofs.InMemory.{newly}
 use Rattle.values.proofs.store.Table.new.Goals as goal
 
-pub invariant-of-result : goal.invariant-of-result
-invariant-of-result c =
-    let n = newly _ _ _ _ _ _ _ _ c.in-ok-bytes.ensures.items c.in-ok-members.ensures.items
-    c.in-ok-nodes.ensures.items c.push-reserved.ensures.items c.push-reserved-2.ensures.items
-    c.in-ok-index.ensures.items c.push-reserved-3.ensures.items c.push-reserved-4.ensures.items in
-    (search rules, (search rules, (search rules, (n.sound, (n.indexed, tt)))))
+pub invariant_of-result : goal.invariant_of-result
+invariant_of-result c =
+    let n = newly _ _ _ _ _ _ _ _ c.in_ok-bytes.ensures.items c.in_ok-members.ensures.items
+    c.in_ok-nodes.ensures.items c.push_reserved.ensures.items c.push_reserved-2.ensures.items
+    c.in_ok-index.ensures.items c.push_reserved-3.ensures.items c.push_reserved-4.ensures.items in
+    record { room = search rules; few = search rules; paired = search rules; sound = n.sound; indexed = n.indexed }
 
 pub returns : goal.returns
 unfolding values
 returns c =
-    (newly _ _ _ _ _ _ _ _ c.in-ok-bytes.ensures.items c.in-ok-members.ensures.items
-    c.in-ok-nodes.ensures.items c.push-reserved.ensures.items c.push-reserved-2.ensures.items
-    c.in-ok-index.ensures.items c.push-reserved-3.ensures.items c.push-reserved-4.ensures.items).values
+    (newly _ _ _ _ _ _ _ _ c.in_ok-bytes.ensures.items c.in_ok-members.ensures.items
+    c.in_ok-nodes.ensures.items c.push_reserved.ensures.items c.push_reserved-2.ensures.items
+    c.in_ok-index.ensures.items c.push_reserved-3.ensures.items c.push_reserved-4.ensures.items).values

@@ -7,19 +7,19 @@ use Rattle.values.proofs.Propers.{proper_binding}
 use Rattle.values.proofs.Steps.{binding_pushed}
 use Rattle.values.proofs.store.Table.push_binding.Goals as goal
 
-pub invariant-of-self : goal.invariant-of-self
-invariant-of-self c =
+pub invariant_of-self : goal.invariant_of-self
+invariant_of-self c =
     let t = c.args.self.now in
     let xs = c.args.members.now in
     let s : Span = record { start = c.len.result; len = length xs } in
     let parts = binding_pushed t s c.args.height xs c.args.place c.len-number.result _ _ _ c.len.ensures refl c.len-number.ensures
-    (chosen _ _ _ _ c.extend-from-slice.ensures.items (c.extend-from-slice.ensures.succeeds (omega arith)))
-    c.push-reserved.ensures.items
+    (chosen _ _ _ _ c.extend_from_slice.ensures.items (c.extend_from_slice.ensures.succeeds (omega arith)))
+    c.push_reserved.ensures.items
     (chosen _ _ _ _ c.insert.ensures.items (c.insert.ensures.succeeds (omega arith)))
     c.requires.known c.requires.height
     (proper_binding (values t) (all_proper_of t) xs c.requires.known c.requires.named c.requires.short (subst (λ h. h ≤ 16) c.requires.height c.requires.low))
     c.requires.gap in
-    (search rules, (search rules, (search rules, (parts.sound, (parts.indexed, tt)))))
+    record { room = search rules; few = search rules; paired = search rules; sound = parts.sound; indexed = parts.indexed }
 
 pub returns : goal.returns
 unfolding values
@@ -28,8 +28,8 @@ returns c =
     let xs = c.args.members.now in
     let s : Span = record { start = c.len.result; len = length xs } in
     let parts = binding_pushed t s c.args.height xs c.args.place c.len-number.result _ _ _ c.len.ensures refl c.len-number.ensures
-    (chosen _ _ _ _ c.extend-from-slice.ensures.items (c.extend-from-slice.ensures.succeeds (omega arith)))
-    c.push-reserved.ensures.items
+    (chosen _ _ _ _ c.extend_from_slice.ensures.items (c.extend_from_slice.ensures.succeeds (omega arith)))
+    c.push_reserved.ensures.items
     (chosen _ _ _ _ c.insert.ensures.items (c.insert.ensures.succeeds (omega arith)))
     c.requires.known c.requires.height
     (proper_binding (values t) (all_proper_of t) xs c.requires.known c.requires.named c.requires.short (subst (λ h. h ≤ 16) c.requires.height c.requires.low))

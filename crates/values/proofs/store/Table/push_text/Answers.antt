@@ -6,16 +6,16 @@ use Rattle.values.proofs.InMemory.{length_of}
 use Rattle.values.proofs.Steps.{text_pushed}
 use Rattle.values.proofs.store.Table.push_text.Goals as goal
 
-pub invariant-of-self : goal.invariant-of-self
-invariant-of-self c =
+pub invariant_of-self : goal.invariant_of-self
+invariant_of-self c =
     let u = c.args.text.now in
     let s : Span = record { start = c.len.result; len = length u } in
     let parts = text_pushed c.args.self.now s u c.args.place c.len-number.result _ _ _ c.len.ensures refl c.len-number.ensures
-    (chosen _ _ _ _ c.extend-from-slice.ensures.items (c.extend-from-slice.ensures.succeeds (omega arith)))
-    c.push-reserved.ensures.items
+    (chosen _ _ _ _ c.extend_from_slice.ensures.items (c.extend_from_slice.ensures.succeeds (omega arith)))
+    c.push_reserved.ensures.items
     (chosen _ _ _ _ c.insert.ensures.items (c.insert.ensures.succeeds (omega arith)))
     c.requires.short c.requires.gap in
-    (search rules, (search rules, (search rules, (parts.sound, (parts.indexed, tt)))))
+    record { room = search rules; few = search rules; paired = search rules; sound = parts.sound; indexed = parts.indexed }
 
 pub returns : goal.returns
 unfolding values
@@ -23,8 +23,8 @@ returns c =
     let u = c.args.text.now in
     let s : Span = record { start = c.len.result; len = length u } in
     let parts = text_pushed c.args.self.now s u c.args.place c.len-number.result _ _ _ c.len.ensures refl c.len-number.ensures
-    (chosen _ _ _ _ c.extend-from-slice.ensures.items (c.extend-from-slice.ensures.succeeds (omega arith)))
-    c.push-reserved.ensures.items
+    (chosen _ _ _ _ c.extend_from_slice.ensures.items (c.extend_from_slice.ensures.succeeds (omega arith)))
+    c.push_reserved.ensures.items
     (chosen _ _ _ _ c.insert.ensures.items (c.insert.ensures.succeeds (omega arith)))
     c.requires.short c.requires.gap in
     record { number = c.len-number.ensures ∙ sym (length_of c.args.self.now); after = parts.values }

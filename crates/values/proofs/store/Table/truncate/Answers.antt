@@ -8,18 +8,24 @@ use Rattle.values.proofs.store.Table.truncate.Goals as goal
 pub returns-then-count-len : goal.returns-then-count-len
 returns-then-count-len c = sym (take_all (max 2 c.args.len) (values c.args.self.now) (omega (arith, length_of c.args.self.now)))
 
-pub invariant-of-self : goal.invariant-of-self
-invariant-of-self c =
+pub invariant_of-self : goal.invariant_of-self
+invariant_of-self c =
     let t = c.args.self.now in
-    let parts = cut_of t c.max-count.result c.text-end-text-end.result c.members-end-members-end.result _ _ _ _ (omega arith) (omega arith) c.text-end-text-end.ensures c.members-end-members-end.ensures
-    c.truncate.ensures.items c.truncate-2.ensures.items c.truncate-3.ensures.items c.keep-below.ensures.items in
-    (search rules, (search rules, (omega (arith, length_cut t c.max-count.result _ (omega arith) c.keep-below.ensures.items, c.keep-below.new.numbers.ok.0, c.truncate-3.ensures.len), (parts.sound, (parts.indexed, tt)))))
+    let parts = cut_of t c.max-count.result c.text_end-text_end.result c.members_end-members_end.result _ _ _ _ (omega arith) (omega arith) c.text_end-text_end.ensures c.members_end-members_end.ensures
+    c.truncate.ensures.items c.truncate-2.ensures.items c.truncate-3.ensures.items c.keep_below.ensures.items in
+    record {
+      room = search rules;
+      few = search rules;
+      paired = omega (arith, length_cut t c.max-count.result _ (omega arith) c.keep_below.ensures.items, c.keep_below.new.numbers.ok.0, c.truncate-3.ensures.len);
+      sound = parts.sound;
+      indexed = parts.indexed;
+    }
 
 pub returns : goal.returns
 unfolding values
 returns c =
     let t = c.args.self.now in
-    let parts = cut_of t c.max-count.result c.text-end-text-end.result c.members-end-members-end.result _ _ _ _ (omega arith) (omega arith) c.text-end-text-end.ensures c.members-end-members-end.ensures
-    c.truncate.ensures.items c.truncate-2.ensures.items c.truncate-3.ensures.items c.keep-below.ensures.items in
+    let parts = cut_of t c.max-count.result c.text_end-text_end.result c.members_end-members_end.result _ _ _ _ (omega arith) (omega arith) c.text_end-text_end.ensures c.members_end-members_end.ensures
+    c.truncate.ensures.items c.truncate-2.ensures.items c.truncate-3.ensures.items c.keep_below.ensures.items in
     let same : c.max-count.result ≡ max 2 c.args.len = omega arith in
     parts.values ∙ ap (λ k. take k (values t)) same
