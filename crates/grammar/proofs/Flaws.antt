@@ -1,13 +1,12 @@
 -- The numbers of flaws, and the first of them. Assumes nothing.
-use Rattle.std.proofs.Common.{◌≡◌, ℕ, zero, suc, ◌≤◌, Bool, true, false, cond, not, ◌&&◌, ◌||◌, eqb, ltb, leb, List, [], ◌∷◌, ◌++◌, map, length, sym, refl, ap, ◌∙◌, subst, arith}
+use Rattle.std.proofs.Common.{◌≡◌, ℕ, zero, suc, ◌≤◌, Bool, true, false, cond, not, ◌&&◌, List, [], ◌∷◌, ◌++◌, map, refl, ap, ◌∙◌, subst, arith}
 use mathlib.Core.Option.{Option, none, some}
 use Rattle.std.proofs.lemmas.Bool.Decides.{nat_tests}
 use Rattle.values.specs.Values.{Name, nth}
-use Rattle.values.specs.Limits.{fit}
 use Rattle.grammar.specs.Words.{callable}
 use Rattle.grammar.specs.Tokens.{is_some}
 use Rattle.grammar.specs.Syntax.{Expr, quoted, constant, dot, named, pick, has, equal, plus, choose, bracket, call, tool, Exprs, no_expr, and, Parts, no_part, part, number_of, Param, Function, Source}
-use Rattle.grammar.specs.Checks.{Flaw, unless, has_param, has_part, find, call_flaws, expr_flaws, all_flaws, part_flaws, param_flaws, starts, function_flaws, at_place, flaws_behind, flaws, before, earliest, first_flaw}
+use Rattle.grammar.specs.Checks.{Flaw, unless, find, call_flaws, expr_flaws, all_flaws, part_flaws, param_flaws, starts, function_flaws, at_place, flaws_behind, flaws, before, earliest, first_flaw}
 use Rattle.grammar.specs.Laws.{before_all, EarliestIsTold}
 
 -- every number is 5, 6 or 7

@@ -1,9 +1,9 @@
 -- A text of tokens parted by one blank is cut into these tokens. Assumes nothing.
-use Rattle.std.proofs.Common.{◌≡◌, ℕ, zero, suc, ◌+◌, ◌-◌, ◌<◌, ◌≤◌, Bool, true, false, cond, ◌&&◌, ◌||◌, eqb, leb, List, [], ◌∷◌, ◌++◌, length, take, drop, sym, refl, ap, ◌∙◌, subst, append_assoc, arith, length-append}
+use Rattle.std.proofs.Common.{◌≡◌, ℕ, zero, suc, ◌+◌, ◌<◌, ◌≤◌, Bool, true, false, cond, ◌&&◌, eqb, leb, List, [], ◌∷◌, ◌++◌, length, take, drop, sym, refl, ap, ◌∙◌, subst, append_assoc, arith, length-append}
 use mathlib.Core.Option.{Option, none, some}
 use Rattle.std.proofs.lemmas.List.{drop_at}
 use Rattle.values.specs.Limits.{name_byte}
-use Rattle.grammar.specs.Tokens.{blank, sign_byte, printable, front, Token, word, text, same, sign, written, Found, found, nothing, behind, escaped, closed, found_text, next_is, token, Tokens, end, no_token, next, placed, cut, bare}
+use Rattle.grammar.specs.Tokens.{blank, sign_byte, printable, front, Token, word, text, same, sign, written, Found, found, nothing, behind, escaped, closed, found_text, next_is, token, end, placed, cut, bare}
 use Rattle.grammar.specs.Texts.{joined, Real, AllReal}
 
 pub clash : {A : Type 0} → ◌≡◌ {A = ℕ} 0 1 → A

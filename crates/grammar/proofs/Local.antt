@@ -1,10 +1,10 @@
 -- What a reading gives depends on the tokens that it passes and, at most, on the one after them; and no reading
 -- within the limit of a function's text runs out of rounds. Assumes nothing.
-use Rattle.std.proofs.Common.{◌≡◌, ℕ, zero, suc, ◌+◌, ◌<◌, ◌≤◌, Bool, true, false, cond, eqb, ltb, leb, List, [], ◌∷◌, ◌++◌, length, sym, refl, ap, ◌∙◌, subst, arith, length-append, leb-true}
+use Rattle.std.proofs.Common.{◌≡◌, ℕ, zero, suc, ◌+◌, ◌<◌, ◌≤◌, Bool, true, false, cond, ltb, leb, List, [], ◌∷◌, ◌++◌, length, sym, refl, ap, ◌∙◌, subst, arith, length-append, leb-true}
 use mathlib.Core.Option.{Option, none, some}
 use Rattle.grammar.specs.Tokens.{Token, written, Tokens, end, no_token, next}
 use Rattle.grammar.specs.Alone.{Carries, Head, put, weight, Passed, Span, AloneSpan, Alone}
-use Rattle.grammar.specs.Readers.{Stand, Outcome, ok, no, Reader, after, ◌>>=◌, give, when, here, take_token, take_next, skip_token, skip_next, takes_of, skips_of, takes, skips, if_some, chain, many}
+use Rattle.grammar.specs.Readers.{Stand, Outcome, ok, no, Reader, after, ◌>>=◌, give, when, here, take_token, take_next, skip_token, skip_next, takes_of, skips_of, skips, if_some, chain, many}
 
 pub clash : {A : Type 0} → ◌≡◌ {A = ℕ} 0 1 → A
 clash e = absurd (omega arith)

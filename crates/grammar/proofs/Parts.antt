@@ -1,9 +1,9 @@
 -- Tokens are parts of the bytes that they were cut from. Assumes nothing.
-use Rattle.std.proofs.Common.{◌≡◌, ℕ, zero, suc, ◌+◌, ◌<◌, Bool, true, false, cond, ◌&&◌, ◌||◌, eqb, leb, List, [], ◌∷◌, ◌++◌, length, take, drop, sym, refl, ap, ◌∙◌, subst, arith, eqb-true}
+use Rattle.std.proofs.Common.{◌≡◌, ℕ, zero, suc, ◌+◌, Bool, true, false, cond, ◌&&◌, eqb, leb, List, [], ◌∷◌, ◌++◌, length, take, drop, sym, refl, ap, ◌∙◌, subst, arith, eqb-true}
 use mathlib.Core.Option.{Option, none, some}
 use Rattle.std.proofs.lemmas.List.{drop-drop}
 use Rattle.values.specs.Limits.{name_byte}
-use Rattle.grammar.specs.Tokens.{blank, sign_byte, printable, front, Token, word, text, same, sign, written, Found, found, nothing, behind, escaped, closed, found_text, next_is, token, Tokens, end, no_token, next, placed, cut, tokens_of}
+use Rattle.grammar.specs.Tokens.{blank, sign_byte, printable, front, Token, word, text, same, sign, written, Found, found, nothing, behind, escaped, closed, found_text, next_is, token, placed, cut}
 use Rattle.grammar.specs.Laws.{PartsOf, TokensAreParts}
 use Rattle.grammar.proofs.Joins.{clash, run_length, behind_some, same_token}
 

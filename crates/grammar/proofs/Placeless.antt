@@ -1,8 +1,8 @@
 -- Every reading of the grammar depends on its tokens alone. Assumes nothing.
-use Rattle.std.proofs.Common.{ℕ, zero, suc, Bool, true, false, List, length}
+use Rattle.std.proofs.Common.{ℕ, zero, suc, List, length}
 use Rattle.values.specs.Values.{Name}
-use Rattle.grammar.specs.Readers.{Stand, ok, Reader, when, ◌>>=◌, give}
-use Rattle.grammar.specs.Syntax.{Expr, Exprs, Parts, size, Param, Function}
+use Rattle.grammar.specs.Readers.{Reader}
+use Rattle.grammar.specs.Syntax.{Expr, Exprs, Parts, size, Param}
 use Rattle.grammar.specs.Grammar.{Start, text_start, truth_start, dot_start, tool_start, name_start, open_start, bracket_start, listed, arguments, one_part, parts, atom_from, atom, term, sum, expr_over, expr, one_param, params, one_set, function}
 use Rattle.grammar.specs.Alone.{FunctionsStandAlone}
 use Rattle.grammar.proofs.Local.{Local, local_bind, local_give, local_here, local_takes, local_skips, local_if, local_when, local_many, alone_bind, alone_takes}

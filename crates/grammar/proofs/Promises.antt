@@ -1,20 +1,19 @@
 -- Functions and their texts; the numbers of refusals. Assumes nothing.
-use Rattle.std.proofs.Common.{◌≡◌, ℕ, zero, suc, ◌≤◌, Bool, true, false, cond, leb, List, [], ◌∷◌, ◌++◌, length, sym, refl, ap, ◌∙◌, subst, arith}
+use Rattle.std.proofs.Common.{◌≡◌, ℕ, zero, suc, ◌≤◌, Bool, true, false, cond, leb, List, [], ◌∷◌, length, sym, refl, ap, ◌∙◌, subst, arith}
 use mathlib.Core.Option.{Option, none, some}
 use Rattle.values.specs.Values.{Name, nth}
 use Rattle.grammar.specs.Tokens.{Token, word, Tokens, end, next}
 use Rattle.grammar.specs.Readers.{Stand, Outcome, ok, no}
 use Rattle.grammar.specs.Syntax.{Source, Function}
 use Rattle.grammar.specs.Grammar.{function, reads}
-use Rattle.grammar.specs.Texts.{text_of}
 use Rattle.grammar.specs.Alone.{Carries, put}
 use Rattle.grammar.specs.Checks.{Flaw, flaws, first_flaw}
-use Rattle.grammar.specs.Models.{Reading, refused, accepted, unflawed, checked, read_model}
+use Rattle.grammar.specs.Models.{refused, accepted, unflawed, checked, read_model}
 use Rattle.grammar.specs.Laws.{FunctionOf, TextsTellTokens, TextsTellFunctions, TextsAreShort, RefusalsAreNumbered}
 use Rattle.grammar.proofs.Local.{clash}
 use Rattle.grammar.proofs.Joins.{text_tells, text_determines, cut_real}
 use Rattle.grammar.proofs.Sources.{begun, Sound, AllSound, Good, reads_good}
-use Rattle.grammar.proofs.Flaws.{Fair, fair_flaws, fair_first}
+use Rattle.grammar.proofs.Flaws.{fair_flaws, fair_first}
 
 pub texts_tell_tokens : TextsTellTokens
 texts_tell_tokens = record { cut_again = λ ts h. text_tells ts 0 h; determined = text_determines; real = λ bytes. cut_real 0 0 bytes }

@@ -1,10 +1,10 @@
 -- What is known of the functions that a model is read as. Assumes nothing.
 use Rattle.std.proofs.Common.{◌≡◌, ℕ, zero, suc, ◌+◌, ◌≤◌, Bool, true, false, cond, leb, List, [], ◌∷◌, ◌++◌, length, take, sym, refl, ap, ◌∙◌, subst, arith, length-append, leb-true}
-use mathlib.Core.Option.{Option, none, some}
+use mathlib.Core.Option.{some}
 use Rattle.values.specs.Values.{Name}
-use Rattle.grammar.specs.Tokens.{Token, word, text, same, sign, written, Tokens, end, no_token, next, bare, places, cut, tokens_of}
+use Rattle.grammar.specs.Tokens.{Token, word, text, same, sign, written, Tokens, end, no_token, next, bare, places, tokens_of}
 use Rattle.grammar.specs.Texts.{joined, AllReal}
-use Rattle.grammar.specs.Alone.{Carries, put, weight, Passed}
+use Rattle.grammar.specs.Alone.{Carries, put, weight}
 use Rattle.grammar.specs.Readers.{Stand, fresh, Outcome, ok, no, Reader, after, ◌>>=◌, takes_of, skips_of, ends}
 use Rattle.grammar.specs.Syntax.{Function, Source}
 use Rattle.grammar.specs.Grammar.{function, source, functions, model, reads}

@@ -3,7 +3,7 @@
 use Rattle.std.specs.Prelude.{◌≡◌, ℕ, suc, ◌+◌, ◌<◌, ◌≤◌, List, [], ◌∷◌, length}
 use Rattle.values.specs.Values.{Name}
 use Rattle.grammar.specs.Tokens.{Token, written, Tokens, end, no_token, next}
-use Rattle.grammar.specs.Readers.{Stand, ok, no, Reader}
+use Rattle.grammar.specs.Readers.{Stand, ok, Reader}
 use Rattle.grammar.specs.Grammar.{function}
 
 -- these tokens, and then what is left

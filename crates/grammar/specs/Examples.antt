@@ -1,8 +1,8 @@
 -- Worked examples of models: tokens, functions, every refusal from 1 to 7, limits at their edges. Assumes nothing.
-use Rattle.std.specs.Prelude.{◌≡◌, ℕ, zero, suc, Bool, true, false, ◌||◌, List, [], ◌∷◌, ◌++◌, length, replicate, codes}
+use Rattle.std.specs.Prelude.{◌≡◌, ℕ, zero, suc, Bool, true, false, ◌||◌, List, [], ◌∷◌, ◌++◌, replicate, codes}
 use Rattle.values.specs.Values.{Name, same_name}
-use Rattle.grammar.specs.Tokens.{Token, word, text, same, sign, value, end, no_token, next, tokens_of, bare, places}
-use Rattle.grammar.specs.Syntax.{Expr, quoted, constant, dot, named, pick, has, equal, plus, choose, bracket, call, tool, Exprs, no_expr, and, no_part, part, Param, Function, Source}
+use Rattle.grammar.specs.Tokens.{word, text, same, sign, value, end, no_token, next, tokens_of, bare, places}
+use Rattle.grammar.specs.Syntax.{Expr, quoted, constant, dot, named, pick, has, equal, plus, choose, bracket, call, tool, Exprs, no_expr, and, no_part, part, Param, Function}
 use Rattle.grammar.specs.Texts.{text_of}
 use Rattle.grammar.specs.Models.{Reading, refused, accepted, read_model}
 

@@ -5,7 +5,7 @@ use Rattle.std.proofs.Math.Option.{Option, none, some}
 use Rattle.values.specs.Values.{Name, same_name}
 use Rattle.grammar.specs.Words.{reserved}
 use Rattle.grammar.specs.Tokens.{Token, word, text, same, sign, value, Tokens, tokens_of, bare, places}
-use Rattle.grammar.specs.Readers.{Stand, fresh, Outcome, ok, no, Reader, ◌>>=◌, ◌>>◌, give, when, here, left, takes, takes_of, skips, skips_of, if_some, many, ends, afresh}
+use Rattle.grammar.specs.Readers.{fresh, Outcome, Reader, ◌>>=◌, ◌>>◌, give, when, here, left, takes, takes_of, skips, skips_of, if_some, many, ends, afresh}
 use Rattle.grammar.specs.Syntax.{Expr, quoted, constant, dot, named, pick, has, equal, plus, choose, bracket, call, tool, Exprs, no_expr, and, Parts, no_part, part, size, Param, Function, Source}
 
 -- Kinds of tokens.

@@ -1,12 +1,12 @@
 -- What is promised of models and of functions' texts. Assumes nothing.
-use Rattle.std.specs.Prelude.{◌≡◌, ℕ, ◌<◌, ◌≤◌, Bool, true, false, ◌&&◌, List, [], ◌∷◌, length, take, drop}
+use Rattle.std.specs.Prelude.{◌≡◌, ℕ, ◌<◌, ◌≤◌, Bool, true, ◌&&◌, List, [], ◌∷◌, length, take, drop}
 use Rattle.std.proofs.Math.Option.{some}
 use Rattle.values.specs.Values.{Name, nth}
 use Rattle.grammar.specs.Tokens.{Token, written, Tokens, end, no_token, next, tokens_of, bare}
 use Rattle.grammar.specs.Syntax.{Source}
 use Rattle.grammar.specs.Texts.{joined, text_of, AllReal}
 use Rattle.grammar.specs.Checks.{Flaw, before, first_flaw}
-use Rattle.grammar.specs.Models.{Reading, refused, accepted, read_model}
+use Rattle.grammar.specs.Models.{refused, accepted, read_model}
 
 -- every token is a part of the model's own bytes, and its place is that of its first byte; the end is the model's length
 abbrev pub PartsOf : List ℕ → Tokens → Type 0

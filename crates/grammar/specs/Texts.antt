@@ -1,6 +1,6 @@
 -- A function's text: its tokens parted by one blank. Assumes nothing.
 use Rattle.std.specs.Prelude.{◌≡◌, ℕ, false, List, [], ◌∷◌, ◌++◌}
-use Rattle.grammar.specs.Tokens.{Token, written, blank, Found, found, token}
+use Rattle.grammar.specs.Tokens.{Token, written, blank, found, token}
 use Rattle.grammar.specs.Syntax.{Source}
 
 -- tokens as they are written, parted by one blank

@@ -1,10 +1,9 @@
 -- What a reading means, and what its calls give. Assumes nothing.
-use Rattle.std.specs.Prelude.{◌≡◌, ℕ, suc, ◌+◌, ◌≤◌, Bool, true, false, leb, List, length, Some, None, Ok, Err, Option as Answer, Result}
+use Rattle.std.specs.Prelude.{◌≡◌, Bool, true, false, Some, None, Ok, Err, Option as Answer, Result}
 use Rattle.std.proofs.Math.Option.{Option, none, some}
-use Rattle.grammar.specs.Tokens.{Token, written, Tokens, end, no_token, next}
 use Rattle.grammar.specs.Readers.{Stand, Outcome, ok, no, Reader}
 use Rattle.grammar.specs.Grammar as grammar
-use Rattle.scanner.specs.Views.{ahead, meaning}
+use Rattle.scanner.specs.Views.{ahead}
 use Rattle.reader.specs.Refusals.{rule_number}
 use Rattle.reader.specs.declared.refusals.Refusal.{Refusal}
 use Rattle.reader.specs.declared.starts.Start.{Start}

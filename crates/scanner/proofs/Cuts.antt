@@ -5,7 +5,7 @@ use Rattle.scanner.specs.declared.tokens.Front.{Front}
 use Rattle.scanner.specs.declared.tokens.Front.TheVariants as front_is
 use Rattle.values.specs.Limits.{name_byte}
 use Rattle.scanner.specs.Views.{Begins, Fronts, meaning, from}
-use Rattle.grammar.specs.Tokens.{front, blank, sign_byte, Token, word, text, same, sign, closed, Found, found, nothing, found_text, next_is, token, Tokens, end, no_token, next, placed, cut, count}
+use Rattle.grammar.specs.Tokens.{front, blank, sign_byte, Token, word, same, sign, closed, Found, found, nothing, found_text, next_is, token, end, no_token, next, placed, cut, count}
 
 module _ (p : ℕ → Bool) (s : List ℕ) (i : ℕ) where
   head : i < length s → front p (drop i s) ≡ cond (p (get_or s i 0)) (suc (front p (drop (i + 1) s))) 0

@@ -1,11 +1,11 @@
 -- Quoted texts, piece by piece. Assumes nothing.
-use Rattle.std.proofs.Common.{◌≡◌, ℕ, zero, suc, ◌+◌, ◌-◌, ◌<◌, ◌≤◌, Bool, true, false, cond, eqb, List, [], ◌∷◌, ◌++◌, length, get_or, take, drop, Some, None, Option as Answer, sym, refl, ap, ◌∙◌, subst, arith, length-append, eq-eqb}
+use Rattle.std.proofs.Common.{◌≡◌, ℕ, suc, ◌+◌, ◌-◌, ◌<◌, ◌≤◌, Bool, true, false, cond, eqb, List, [], ◌∷◌, ◌++◌, length, get_or, take, drop, Some, None, Option as Answer, sym, refl, ap, ◌∙◌, subst, arith, length-append}
 use mathlib.Core.Option.{Option, none, some}
 use Rattle.std.proofs.lemmas.List.{take_rest, drop-drop, length-take-le, length-drop}
-use Rattle.grammar.specs.Tokens.{Token, text, meant, is_some, escaped, printable, behind, closed, Found, found, nothing, found_text, token}
+use Rattle.grammar.specs.Tokens.{text, meant, is_some, escaped, printable, behind, closed, found, nothing, found_text, token}
 use Rattle.scanner.specs.declared.runs.Quoted.TheVariants as quoted
 use Rattle.scanner.specs.declared.tokens.Front.TheVariants as front_is
-use Rattle.scanner.specs.Views.{answer, pair_byte, text_length, Goes_on, Begins, Fronts}
+use Rattle.scanner.specs.Views.{answer, pair_byte, text_length, GoesOn, Begins, Fronts}
 
 pub clash : {A : Type 0} → ◌≡◌ {A = ℕ} 0 1 → A
 clash e = absurd (omega arith)
@@ -18,7 +18,7 @@ escapes b y e = go (meant y) e
     go (some x) e = refl
 
 -- an escape belongs to the text
-pub pair : (l : List ℕ) (b : ℕ) → 2 ≤ length l → get_or l 0 0 ≡ 92 → Some b ≡ pair_byte (get_or l 1 0) → Goes_on l (quoted.Bytes 2)
+pub pair : (l : List ℕ) (b : ℕ) → 2 ≤ length l → get_or l 0 0 ≡ 92 → Some b ≡ pair_byte (get_or l 1 0) → GoesOn l (quoted.Bytes 2)
 pair [] b h e f = absurd (omega arith)
 pair (x ∷ []) b h e f = absurd (omega arith)
 pair (x ∷ y ∷ r) b h e f = (
@@ -28,7 +28,7 @@ pair (x ∷ y ∷ r) b h e f = (
 )
 
 -- a plain byte belongs to the text
-pub one : (l : List ℕ) → 0 < length l → eqb (get_or l 0 0) 34 ≡ false → eqb (get_or l 0 0) 92 ≡ false → true ≡ printable (get_or l 0 0) → Goes_on l (quoted.Bytes 1)
+pub one : (l : List ℕ) → 0 < length l → eqb (get_or l 0 0) 34 ≡ false → eqb (get_or l 0 0) 92 ≡ false → true ≡ printable (get_or l 0 0) → GoesOn l (quoted.Bytes 1)
 one [] h q e f = absurd (omega arith)
 one (x ∷ []) h q e f = (ap (λ t. cond t (some []) none) q, omega arith, omega arith)
 one (x ∷ y ∷ r) h q e f = (
@@ -58,9 +58,9 @@ counted_more i n l (some r) h =
 abbrev pub Left : List ℕ → ℕ → Type 0
 Left s i = (i ≤ length s) × (counted i (closed (drop i s)) ≡ counted 0 (closed s))
 
-pub left_more : (s : List ℕ) (i n : ℕ) → Left s i → Goes_on (take (length s - i) (drop i s)) (quoted.Bytes n) → Left s (i + n)
+pub left_more : (s : List ℕ) (i n : ℕ) → Left s i → GoesOn (take (length s - i) (drop i s)) (quoted.Bytes n) → Left s (i + n)
 left_more s i n l g =
-    let h : Goes_on (drop i s) (quoted.Bytes n) = subst (λ r. Goes_on r (quoted.Bytes n)) (take_rest s i) g in
+    let h : GoesOn (drop i s) (quoted.Bytes n) = subst (λ r. GoesOn r (quoted.Bytes n)) (take_rest s i) g in
     let k : length (drop i s) ≡ length s - i = length-drop i s in
     (omega (arith, l.0, h.2), sym (counted_more i n (drop i s) (closed (drop n (drop i s))) h.2 ∙ ap (λ r. counted (i + n) (closed r)) (drop-drop n i s)) ∙ ap (counted i) (sym h.0) ∙ l.1)
 

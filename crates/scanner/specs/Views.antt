@@ -1,7 +1,7 @@
 -- What a scanner and its tokens mean, and what its calls give. Assumes nothing.
 use Rattle.std.specs.Prelude.{◌≡◌, ℕ, suc, ◌<◌, ◌≤◌, List, [], ◌∷◌, length, take, drop, Some, None, Option as Answer}
 use Rattle.std.proofs.Math.Option.{Option, none, some}
-use Rattle.grammar.specs.Tokens.{Token, word, text, same, sign, meant, behind, closed, Found, found, nothing, token, Tokens, end, no_token, next, cut}
+use Rattle.grammar.specs.Tokens.{Token, word, text, same, sign, meant, behind, closed, found, nothing, token, Tokens, end, no_token, next, cut}
 use Rattle.scanner.specs.declared.scanner.Scanner.{Scanner}
 use Rattle.scanner.specs.declared.runs.Quoted.{Quoted}
 use Rattle.scanner.specs.declared.runs.Quoted.TheVariants as quoted
@@ -41,10 +41,10 @@ Below None n = Unit {0}
 Below (Some i) n = i < n
 
 -- how a quoted text goes on: it is closed, or some bytes belong to it and it goes on behind them, or it is none
-abbrev pub Goes_on : List ℕ → Quoted → Type 0
-Goes_on l quoted.Close = closed l ≡ some []
-Goes_on l (quoted.Bytes n) = (closed l ≡ behind (take n l) (closed (drop n l))) × (0 < n) × (n ≤ length l)
-Goes_on l quoted.Wrong = closed l ≡ none
+abbrev pub GoesOn : List ℕ → Quoted → Type 0
+GoesOn l quoted.Close = closed l ≡ some []
+GoesOn l (quoted.Bytes n) = (closed l ≡ behind (take n l) (closed (drop n l))) × (0 < n) × (n ≤ length l)
+GoesOn l quoted.Wrong = closed l ≡ none
 
 -- a token of n bytes stands in front
 abbrev pub Begins : List ℕ → Token → ℕ → Type 0

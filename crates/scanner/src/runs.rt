@@ -2,7 +2,7 @@
 ghost use Rattle.std.specs.Prelude.{◌≡◌, ◌≤◌, length};
 ghost use Rattle.values.specs.Limits.{name_byte};
 ghost use Rattle.grammar.specs.Tokens.{blank, front, closed};
-ghost use Rattle.scanner.specs.Views.{Goes_on, text_length, Below};
+ghost use Rattle.scanner.specs.Views.{GoesOn, text_length, Below};
 
 use crate::bytes::{escaped_byte, is_blank, is_printable};
 use values::is_name_byte;
@@ -42,7 +42,7 @@ pub enum Quoted {
 
 // How a quoted text goes on behind its opening quote.
 fn go_on(bytes: &[u8]) -> Quoted
-    ensures { Goes_on bytes.now result }
+    ensures { GoesOn bytes.now result }
 {
     match bytes {
         [] => Quoted::Wrong,

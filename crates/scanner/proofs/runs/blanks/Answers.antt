@@ -1,5 +1,5 @@
-use Rattle.std.proofs.Common.{◌≡◌, sym, ◌∙◌, arith}
-use Rattle.grammar.specs.Tokens.{blank, front}
+use Rattle.std.proofs.Common.{sym, arith}
+use Rattle.grammar.specs.Tokens.{blank}
 use Rattle.scanner.proofs.Cuts.{front_more, front_stop, front_all}
 use Rattle.scanner.proofs.runs.blanks.Goals as goal
 

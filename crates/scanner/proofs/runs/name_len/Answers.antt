@@ -1,6 +1,5 @@
-use Rattle.std.proofs.Common.{◌≡◌, sym, ◌∙◌, arith}
+use Rattle.std.proofs.Common.{sym, arith}
 use Rattle.values.specs.Limits.{name_byte}
-use Rattle.grammar.specs.Tokens.{front}
 use Rattle.scanner.proofs.Cuts.{front_more, front_stop, front_all}
 use Rattle.scanner.proofs.runs.name_len.Goals as goal
 

@@ -1,4 +1,3 @@
-use Rattle.std.proofs.Common.{arith}
 use Rattle.scanner.specs.declared.tokens.Front.TheVariants as front_is
 use Rattle.scanner.specs.Views.{ahead}
 use Rattle.scanner.proofs.Cuts.{seen}
