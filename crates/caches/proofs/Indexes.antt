@@ -1,7 +1,7 @@
 -- Laws of the index of a keeper. Assumes nothing.
-use Rattle.std.proofs.Common.{◌≡◌, ℕ, zero, suc, ◌+◌, ◌-◌, ◌<◌, ◌≤◌, Bool, true, false, cond, ◌⊎◌, List, [], ◌∷◌, ◌++◌, map, length, get_or, take, drop, is_some, Some, None, Option, Ordering, Less, Equal, Greater, sym, refl, ap, ◌∙◌, subst, inl, inr, ⊎_elim, append-nil, arith}
+use Rattle.std.proofs.Common.{◌≡◌, ℕ, zero, suc, ◌+◌, ◌-◌, ◌<◌, ◌≤◌, Bool, true, false, cond, List, [], ◌∷◌, ◌++◌, map, length, get_or, take, drop, is_some, Some, None, Option, Ordering, Less, Equal, Greater, sym, refl, ap, ◌∙◌, subst, ⊎_elim, append-nil, arith}
 use Rattle.std.specs.List.{insert}
-use Rattle.std.specs.Cmp.{ranks, nat_cmp_total}
+use Rattle.std.specs.Cmp.{ranks, nat_cmp_is}
 use Rattle.std.specs.Ordering.{is_lt, is_eq, ordering_then, MatchOrdering, nat_cmp}
 use Rattle.std.proofs.str.Laws.{order}
 use Rattle.std.proofs.lemmas.List.{get_or_default, map_push, get_or-drop, length-drop, take-append-drop}
@@ -13,11 +13,11 @@ use Rattle.caches.specs.declared.keys.Key.TheVariants.{Tool}
 use Rattle.caches.specs.declared.keeper_slots.Indexed.{Indexed}
 use Rattle.caches.specs.declared.keeper_slots.Stretch.{Stretch}
 use Rattle.caches.specs.Keys.{key_order, same_key}
-use Rattle.caches.specs.Lines.{line_order, line_at, Sorted, Below, lines_with, numbers_with, Spans, Enlists}
-use Rattle.caches.specs.KeyOrders.{same_key_same}
+use Rattle.caches.specs.Lines.{line_order, line_order_total, line_at, Sorted, Below, lines_with, numbers_with, Spans, Enlists}
+use Rattle.caches.proofs.KeyOrders.{same_key_same}
 
 abbrev cmp : Indexed → Indexed → Ordering
-cmp = line_order.cmp
+cmp = line_order
 
 abbrev pub line : Key → ℕ → Indexed
 line key n = record { key = key; entry = n }
@@ -37,7 +37,7 @@ chain xs up i (suc n) j e lt =
     let m = i + n + 1 in
     let f : m + 1 ≡ j = omega arith in
     let last : cmp (line_at xs m) (line_at xs j) ≡ Less = ap (λ k. cmp (line_at xs m) (line_at xs k)) (sym f) ∙ less (cmp (line_at xs m) (line_at xs (m + 1))) (up m (omega arith)) in
-    line_order.trans (line_at xs i) (line_at xs m) (line_at xs j) (chain xs up i n m refl (omega arith)) last
+    line_order_total.trans (line_at xs i) (line_at xs m) (line_at xs j) (chain xs up i n m refl (omega arith)) last
 
 pub climbing : (xs : List Indexed) → Sorted xs → Climbs cmp xs
 climbing xs up i j d lt end =
@@ -73,7 +73,7 @@ after_lacks x key m lt n = go (key_order x.key key) n
   where
     go : (r : Ordering) → (ordering_then r (nat_cmp x.entry m) ≡ Less → ⊥) → is_eq r ≡ false
     go Less f = refl
-    go Equal f = absurd (f (sym (nat_cmp_total.says x.entry m Less lt)))
+    go Equal f = absurd (f (sym (nat_cmp_is x.entry m Less lt)))
     go Greater f = refl
 
 never_equal : (x : Indexed) (key : Key) (m : ℕ) → x.entry < m → cmp x (line key m) ≡ Equal → ⊥
@@ -81,7 +81,7 @@ never_equal x key m lt h = go (key_order x.key key) h
   where
     go : (r : Ordering) → ordering_then r (nat_cmp x.entry m) ≡ Equal → ⊥
     go Less f = let z : ◌≡◌ {A = ℕ} 0 1 = cc in omega arith
-    go Equal f = let g = (nat_cmp_total.says x.entry m Less lt) in let z : ◌≡◌ {A = ℕ} 0 1 = cc in omega arith
+    go Equal f = let g = nat_cmp_is x.entry m Less lt in let z : ◌≡◌ {A = ℕ} 0 1 = cc in omega arith
     go Greater f = let z : ◌≡◌ {A = ℕ} 0 1 = cc in omega arith
 
 -- ---- lines of a key
@@ -131,7 +131,7 @@ module _ (key : Key) where
 
 -- the stretch between the places of two lines
 pub spans : (key : Key) (xs : List Indexed) (n m : ℕ) (s : Stretch) → n ≤ m → Below n xs → s.start ≤ length xs → s.end ≤ length xs → Stands cmp xs (line key 0) s.start → Stands cmp xs (line key m) s.end → Spans key xs s
-spans key xs n m s h below in-s in_e a b = record {
+spans key xs n m s h below in_s in_e a b = record {
   climbs = up;
   within = in_e;
   lines = filter_stretch key xs s.start s.end up

@@ -1,11 +1,11 @@
 -- A pair's taking from far. Assumes nothing.
-use Rattle.std.proofs.Common.{◌≡◌, ℕ, ◌-◌, ◌<◌, ◌≤◌, Bool, List, Some, None, Option, sym, refl, subst, inl, inr}
+use Rattle.std.proofs.Common.{◌≡◌, ℕ, ◌-◌, ◌≤◌, Bool, List, Some, Option, subst, inr}
 use Rattle.std.specs.List.{slice_get}
 use Rattle.caches.specs.declared.keys.Key.{Key}
 use Rattle.caches.specs.declared.questions.Answered.{Answered}
 use Rattle.caches.specs.Entries.{Entry, entry, with_key, answers_at, Took}
 use Rattle.caches.specs.Exact.{Handed, TakesEither}
-use Rattle.caches.specs.Lists.{handed}
+use Rattle.caches.proofs.Lists.{handed}
 
 module _ {N F : Type 0} (adds-N : Entry → N → Bool → N → Type 0) (takes-N : Key → ℕ → N → Option ℕ → N → Type 0) (takes-F : Key → ℕ → F → Option ℕ → F → Type 0) where
   pub takes_far : (key : Key) (k n c : ℕ) (far : List Entry) (s s' : N) (t t' : F) (r : Option ℕ) → n ≡ c → n ≤ k → takes-F key (k - n) t r t' → Handed adds-N (slice_get (with_key key far) (k - n)) r s s' → TakesEither adds-N takes-N takes-F key k c far s t r s' t'

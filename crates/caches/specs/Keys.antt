@@ -1,8 +1,8 @@
 -- The order of keys. Assumes nothing.
-use Rattle.std.specs.Prelude.{◌≡◌, ℕ, suc, Bool, List, [], ◌∷◌, map, Some, None, Option}
+use Rattle.std.specs.Prelude.{ℕ, suc, Bool, List, [], ◌∷◌, map, Some, None, Option}
 use Rattle.std.specs.declared.cmp.Ordering.{Ordering}
-use Rattle.std.specs.Cmp.{IsTotalOrder, nat_cmp_total}
-use Rattle.std.specs.Cmp.Lexicographic.{slice_cmp, lexical}
+use Rattle.std.specs.Cmp.{IsTotalOrder, on_total}
+use Rattle.std.specs.Cmp.Lexicographic.{slice_cmp, nat_list_cmp_total}
 use Rattle.std.specs.Ordering.{is_eq, nat_cmp}
 use Rattle.caches.specs.declared.keys.Key.{Key}
 use Rattle.caches.specs.declared.keys.Key.TheVariants.{Function, Tool}
@@ -25,11 +25,5 @@ abbrev pub same_key : Key → Key → Bool
 same_key a b = is_eq (key_order a b)
 
 -- the order of keys is total
-abbrev pub key_total : IsTotalOrder (λ (a b : Key) (r : Ordering). r ≡ key_order a b)
-key_total = record {
-  cmp = key_order;
-  says = λ a b r h. h;
-  flip = λ a b. (lexical nat_cmp_total).antisymm (key_numbers a) (key_numbers b);
-  trans = λ a b c. (lexical nat_cmp_total).trans (key_numbers a) (key_numbers b) (key_numbers c);
-  alike = λ a b c. (lexical nat_cmp_total).congr (key_numbers a) (key_numbers b) (key_numbers c);
-}
+pub key_total : IsTotalOrder key_order
+key_total = on_total key_numbers nat_list_cmp_total

@@ -7,7 +7,4 @@ pub mod Slots
 pub mod Lines
 pub mod Held
 pub mod Sameness
-pub mod Rows
-pub mod Lists
-pub mod KeyOrders
-pub mod Turnings
+pub mod Laws

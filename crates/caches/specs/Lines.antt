@@ -1,7 +1,7 @@
 -- The index of a keeper: a line for each entry, in the order of keys and, of one key, of age. Assumes nothing.
-use Rattle.std.specs.Prelude.{◌≡◌, ℕ, ◌+◌, ◌-◌, ◌<◌, ◌≤◌, true, cond, List, [], ◌∷◌, ◌++◌, map, length, get_or, take, drop, slice_index_or}
-use Rattle.std.specs.Cmp.{IsTotalOrder, nat_cmp_total}
-use Rattle.std.specs.Cmp.Derive.{on, fields}
+use Rattle.std.specs.Prelude.{◌≡◌, ℕ, ◌+◌, ◌-◌, ◌<◌, ◌≤◌, true, cond, List, [], ◌∷◌, ◌++◌, map, length, take, drop, slice_index_or}
+use Rattle.std.specs.declared.cmp.Ordering.{Ordering}
+use Rattle.std.specs.Cmp.{IsTotalOrder, nat_cmp_total, on_total, then_total}
 use Rattle.std.specs.Ordering.{is_lt}
 use Rattle.caches.specs.declared.keys.Key.{Key}
 use Rattle.caches.specs.declared.keys.Key.TheVariants.{Tool}
@@ -10,8 +10,13 @@ use Rattle.caches.specs.declared.keeper_slots.Stretch.{Stretch}
 use Rattle.caches.specs.contracts.keeper_slots.IndexedOrd.TheImpl.{ghosts}
 use Rattle.caches.specs.Keys.{same_key, key_total}
 
-abbrev pub line_order : IsTotalOrder ghosts.cmp
-line_order = on (λ (x : Indexed). (x.key, x.entry)) (fields key_total nat_cmp_total)
+-- by key, and lines of one key by their entries' numbers
+abbrev pub line_order : Indexed → Indexed → Ordering
+line_order = ghosts.cmp
+
+-- it is a total order
+pub line_order_total : IsTotalOrder line_order
+line_order_total = then_total (on_total (λ (x : Indexed). x.key) key_total) (on_total (λ (x : Indexed). x.entry) nat_cmp_total)
 
 -- the line at a place
 abbrev pub line_at : List Indexed → ℕ → Indexed
@@ -19,11 +24,11 @@ line_at xs i = slice_index_or xs i (record { key = Tool 0 0 0; entry = 0 })
 
 -- each line is less than the next
 abbrev pub Sorted : List Indexed → Type 0
-Sorted xs = (i : ℕ) → i + 1 < length xs → is_lt (line_order.cmp (line_at xs i) (line_at xs (i + 1))) ≡ true
+Sorted xs = (i : ℕ) → i + 1 < length xs → is_lt (line_order (line_at xs i) (line_at xs (i + 1))) ≡ true
 
 -- every line's entry is below n
 abbrev pub Below : ℕ → List Indexed → Type 0
-Below n xs = (k : ℕ) (d : Indexed) → k < length xs → (get_or xs k d).entry < n
+Below n xs = (k : ℕ) (d : Indexed) → k < length xs → (slice_index_or xs k d).entry < n
 
 -- the lines that have the key
 abbrev pub lines_with : Key → List Indexed → List Indexed

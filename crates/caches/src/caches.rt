@@ -47,6 +47,7 @@ pub trait Cache {
     fn clear(&mut self)
         ensures { held self.new ≡ [] };
 
+    // The laws: a room is at most 65,535, no more is held than it takes, and each entry held has at most 64 answers.
     ghost small: { room ≤ 65535 };
 
     ghost bounded: { (s : Self) → length (held s) ≤ room };

@@ -6,9 +6,9 @@ ghost use Rattle.caches.specs.Entries.{with_key};
 ghost use Rattle.caches.specs.Exact.{Looks, Keeps};
 ghost use Rattle.caches.specs.Slots.{slot_entry, slot_entries, Fit, all_lens, places};
 ghost use Rattle.caches.specs.Lines.{Sorted, Below, numbers_with, Spans, Enlists};
-ghost use Rattle.std.proofs.Common.{arith, rules};
+ghost use Rattle.std.proofs.Common.{arith};
 ghost use Rattle.std.proofs.lemmas.List.{length-map};
-ghost use Rattle.caches.specs.Rows.{slots_short};
+ghost use Rattle.caches.specs.Laws.{slots_short};
 
 use crate::caches::{Cache, MOST_ANSWERS};
 use crate::keeper_slots::{Indexed, Slot, Stretch};
@@ -105,7 +105,7 @@ impl Cache for Keeper {
 
     ghost takes = { λ key k s r t. Looks key k (slot_entries s.slots.items s.answers.items) r (slot_entries t.slots.items t.answers.items) };
 
-    ghost small = { first_of (Prim.search rules, Prim.grind (arith, Self.row.coded.inj)) };
+    ghost small = { omega arith };
 
     ghost bounded = { λ s. omega (arith, length-map s.slots.items (slot_entry s.answers.items), s.few.0, s.slots.ok.0) };
 

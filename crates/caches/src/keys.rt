@@ -1,11 +1,8 @@
 // Keys, under which a cache finds its entries.
 ghost use Rattle.std.specs.Prelude.{◌≡◌, true, Some, refl};
+ghost use Rattle.std.specs.Cmp.{partial_equiv_from_equiv, eq_by_cmp_equiv, partial_order_from_total};
 ghost use Rattle.std.specs.Ordering.{is_eq};
-ghost use Rattle.caches.specs.Keys.{key_order, same_key};
-ghost use Rattle.std.specs.Cmp.Rules.{comparing};
-ghost use Rattle.std.proofs.Common.{rules};
-ghost use Rattle.std.specs.Cmp as Keys;
-ghost use Rattle.std.specs.Cmp.{partial_order_from_agreeing_total};
+ghost use Rattle.caches.specs.Keys.{key_order, same_key, key_total};
 
 use std::cmp::Ordering;
 use values::Number;
@@ -29,7 +26,7 @@ pub enum Key {
 impl PartialEq for Key {
     ghost eq = { λ a b. same_key a b };
 
-    ghost laws = { Keys.partial_equiv_from_equiv (Prim.search (comparing, rules)) };
+    ghost laws = { partial_equiv_from_equiv (eq_by_cmp_equiv key_total) };
 
     fn eq(&self, other: &Key) -> bool {
         self.cmp(other).is_eq()
@@ -37,13 +34,13 @@ impl PartialEq for Key {
 }
 
 impl Eq for Key {
-    ghost laws = { Prim.search (comparing, rules) };
+    ghost laws = { eq_by_cmp_equiv key_total };
 }
 
 impl PartialOrd for Key {
     ghost partial_cmp = { λ a b. Some (key_order a b) };
 
-    ghost laws = { partial_order_from_agreeing_total (λ a b. key_order a b) (Prim.search (comparing, rules)) (λ _ _. refl) (Prim.search (comparing, rules)) };
+    ghost laws = { partial_order_from_total key_total };
 
     fn partial_cmp(&self, other: &Key) -> Option<Ordering> {
         Some(self.cmp(other))
@@ -54,11 +51,11 @@ impl PartialOrd for Key {
 impl Ord for Key {
     ghost cmp = { λ a b. key_order a b };
 
-    ghost total = { Prim.search (comparing, rules) };
+    ghost total = { key_total };
 
-    ghost matches_partial_cmp = { Prim.search (comparing, rules) };
+    ghost matches_partial_cmp = { λ a b. refl };
 
-    ghost matches_eq = { Prim.search (comparing, rules) };
+    ghost matches_eq = { λ a b. refl };
 
     fn cmp(&self, other: &Key) -> Ordering {
         match *self {

@@ -1,7 +1,7 @@
 // The cache `none`: it holds nothing.
 ghost use Rattle.std.specs.Prelude.{[]};
 ghost use Rattle.caches.specs.Exact.{Looks, Declines};
-ghost use Rattle.std.proofs.Common.{rules};
+ghost use Rattle.std.proofs.Common.{arith};
 
 use crate::caches::Cache;
 use crate::keys::Key;
@@ -20,11 +20,11 @@ impl Cache for NoCache {
 
     ghost takes = { λ key k s r t. Looks key k [] r [] };
 
-    ghost small = { Prim.search rules };
+    ghost small = { omega arith };
 
-    ghost bounded = { Prim.search rules };
+    ghost bounded = { λ s. omega arith };
 
-    ghost short = { Prim.search rules };
+    ghost short = { λ s e m. absurd m };
 
     fn count(&self, key: Key) -> u16 {
         0

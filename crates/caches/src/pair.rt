@@ -1,9 +1,9 @@
 // Two caches as one: what near holds, then what far holds.
 ghost use Rattle.std.specs.Prelude.{◌≡◌, ◌+◌, ◌≤◌, ◌++◌, length, take};
-ghost use Rattle.std.proofs.Common.{length-append, arith, ⊎_elim, rules};
+ghost use Rattle.std.proofs.Common.{length-append, arith, ⊎_elim};
 ghost use Rattle.caches.specs.Entries.{with_key, answers_at};
 ghost use Rattle.caches.specs.Exact.{AddsBoth, TakesEither};
-ghost use Rattle.caches.specs.Lists.{member_split};
+ghost use Rattle.caches.specs.Laws.{member_split};
 
 use crate::beside::Beside;
 use crate::caches::Cache;
@@ -50,7 +50,7 @@ impl<N: Beside<F>, F: Cache> Cache for Pair<N, F> {
 
     ghost takes = { λ key k s r t. TakesEither N.Cache.adds N.Cache.takes F.Cache.takes key k (length (with_key key (N.Cache.held s.near))) (F.Cache.held s.far) s.near s.far r t.near t.far };
 
-    ghost small = { Prim.search rules };
+    ghost small = { N.Beside.fits };
 
     ghost bounded = { λ s. omega (arith, length-append (N.Cache.held s.near) (F.Cache.held s.far), N.Cache.bounded s.near, F.Cache.bounded s.far) };
 

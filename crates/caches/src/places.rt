@@ -1,9 +1,7 @@
 // Places in a value, of which questions ask.
-ghost use Rattle.std.specs.Prelude.{◌≡◌, ◌<◌, length, Decides, MatchOption};
-ghost use Rattle.caches.specs.Paths.{path_names};
-ghost use Rattle.std.specs.Cmp.Rules.{comparing};
-ghost use Rattle.std.proofs.Common.{rules, arith};
-ghost use Rattle.std.specs.Cmp as Keys;
+ghost use Rattle.std.specs.Prelude.{◌≡◌, ◌<◌, length, MatchOption};
+ghost use Rattle.std.specs.Cmp.{partial_equiv_from_equiv};
+ghost use Rattle.caches.specs.Paths.{path_names, same_path, same_path_equiv};
 
 use crate::paths::{MOST_NAMES, Path};
 use values::Number;
@@ -50,9 +48,9 @@ impl Path {
 
 // Paths are equal where their names are.
 impl PartialEq for Path {
-    ghost equals = { λ a b r. Decides r (path_names a ≡ path_names b) };
+    ghost eq = { λ a b. same_path a b };
 
-    ghost laws = { Keys.partial_equiv_from_equiv (first_of (Prim.search (comparing, rules), Prim.grind (arith, Self.row.coded.inj))) };
+    ghost laws = { partial_equiv_from_equiv same_path_equiv };
 
     fn eq(&self, other: &Path) -> bool {
         self.names() == other.names()
@@ -60,5 +58,5 @@ impl PartialEq for Path {
 }
 
 impl Eq for Path {
-    ghost laws = { first_of (Prim.search (comparing, rules), Prim.grind (arith, Self.row.coded.inj)) };
+    ghost laws = { same_path_equiv };
 }

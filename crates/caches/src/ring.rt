@@ -4,9 +4,9 @@ ghost use Rattle.std.specs.List.{slice_get};
 ghost use Rattle.caches.specs.Entries.{with_key};
 ghost use Rattle.caches.specs.Exact.{Looks, Turns, newest};
 ghost use Rattle.caches.specs.Rings.{ring_entry, ring_entries, turned};
-ghost use Rattle.std.proofs.Common.{arith, rules};
+ghost use Rattle.std.proofs.Common.{arith};
 ghost use Rattle.std.proofs.lemmas.List.{length-map};
-ghost use Rattle.caches.specs.Turnings.{length_turned, ring_short};
+ghost use Rattle.caches.specs.Laws.{length_turned, ring_short};
 
 use crate::caches::Cache;
 use crate::keys::Key;
@@ -75,7 +75,7 @@ impl Cache for Ring {
 
     ghost takes = { λ key k s r t. Looks key k (ring_entries (turned s.oldest s.slots.items)) r (ring_entries (turned t.oldest t.slots.items)) };
 
-    ghost small = { first_of (Prim.search rules, Prim.grind (arith, Self.row.coded.inj)) };
+    ghost small = { omega arith };
 
     ghost bounded = { λ s.
         let slots = s.slots.items in

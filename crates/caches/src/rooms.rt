@@ -1,5 +1,5 @@
 // Single caches stand beside each other, and beside pairs of them.
-ghost use Rattle.std.proofs.Common.{rules, arith};
+ghost use Rattle.std.proofs.Common.{arith};
 
 use crate::beside::{Beside, Single};
 use crate::caches::Cache;
@@ -9,29 +9,29 @@ use crate::pair::Pair;
 use crate::ring::Ring;
 
 impl Single for Keeper {
-    ghost little = { first_of (Prim.search rules, Prim.grind (arith, Self.row.coded.inj)) };
+    ghost little = { omega arith };
 }
 
 impl Single for Ring {
-    ghost little = { first_of (Prim.search rules, Prim.grind (arith, Self.row.coded.inj)) };
+    ghost little = { omega arith };
 }
 
 impl Single for NoCache {
-    ghost little = { Prim.search rules };
+    ghost little = { omega arith };
 }
 
 impl<N: Single, F: Single> Beside<F> for N {
-    ghost fits = { Prim.search rules };
+    ghost fits = { omega (arith, N.Single.little, F.Single.little) };
 }
 
 impl<N: Single, M: Single, F: Single> Beside<Pair<M, F>> for N {
-    ghost fits = { Prim.search rules };
+    ghost fits = { omega (arith, N.Single.little, M.Single.little, F.Single.little) };
 }
 
 impl<N: Single, M: Single, F: Single> Beside<F> for Pair<N, M> {
-    ghost fits = { Prim.search rules };
+    ghost fits = { omega (arith, N.Single.little, M.Single.little, F.Single.little) };
 }
 
 impl<A: Single, B: Single, C: Single, D: Single> Beside<Pair<C, D>> for Pair<A, B> {
-    ghost fits = { Prim.search rules };
+    ghost fits = { omega (arith, A.Single.little, B.Single.little, C.Single.little, D.Single.little) };
 }

@@ -1,4 +1,4 @@
-use Rattle.caches.specs.Lists.{took_product}
+use Rattle.caches.proofs.Lists.{took_product}
 use Rattle.caches.proofs.looking.first_product.Goals as goal
 
 pub returns : goal.returns

@@ -1,7 +1,7 @@
-use Rattle.std.proofs.Common.{◌≡◌, ◌≤◌, length, take, sym, ap, ◌∙◌, arith, length-set}
+use Rattle.std.proofs.Common.{◌≡◌, sym, ◌∙◌, arith, length-set}
 use Rattle.caches.specs.Entries.{answers_at}
 use Rattle.caches.proofs.Copies.{copied_more, copied_all, nth_none}
-use Rattle.caches.specs.Lists.{answers_short}
+use Rattle.caches.proofs.Lists.{answers_short}
 use Rattle.caches.proofs.pair.recall.Goals as goal
 
 pub returns-in-None : goal.returns-in-None

@@ -1,5 +1,5 @@
-use Rattle.std.proofs.Common.{◌≡◌, length, sym, ap, arith}
-use Rattle.caches.specs.Turnings.{ring_has, ring_lacks, ring_ended}
+use Rattle.std.proofs.Common.{length, ap, arith}
+use Rattle.caches.proofs.Turnings.{ring_has, ring_lacks, ring_ended}
 use Rattle.caches.proofs.ring_rows.count_in.Goals as goal
 use Rattle.caches.proofs.ring_rows.count_in.Goals.{then-eq, else-eq}
 

@@ -1,6 +1,6 @@
-use Rattle.std.proofs.Common.{◌≡◌, ◌<◌, sym, ap, ◌∙◌, arith}
+use Rattle.std.proofs.Common.{◌<◌, sym, ap, ◌∙◌, arith}
 use Rattle.std.specs.List.{slice_get}
-use Rattle.caches.specs.Turnings.{ring_has, ring_lacks, ring_ended, nth_more}
+use Rattle.caches.proofs.Turnings.{ring_has, ring_lacks, ring_ended, nth_more}
 use Rattle.caches.proofs.ring_rows.kth_in.Goals as goal
 use Rattle.caches.proofs.ring_rows.kth_in.Goals.{then-eq+else-left-eq0, else-eq}
 

@@ -1,11 +1,11 @@
-use Rattle.std.proofs.Common.{◌≡◌, ◌+◌, ◌-◌, ◌<◌, ◌≤◌, length, get_or, Some, None, vec_items, vec_len, sym, ap, ◌∙◌, subst, arith}
+use Rattle.std.proofs.Common.{◌+◌, ◌<◌, ◌≤◌, length, get_or, Some, vec_items, vec_len, sym, ap, ◌∙◌, subst, arith}
 use Rattle.std.specs.List.{slice_get}
 use Rattle.std.specs.Option.{option_map}
 use Rattle.caches.specs.declared.keeper_slots.Indexed.{Indexed}
 use Rattle.caches.specs.declared.keeper_slots.Slot.{Slot}
 use Rattle.caches.specs.Entries.{with_key}
 use Rattle.caches.specs.Slots.{slot_entry, slot_entries}
-use Rattle.caches.specs.Rows.{kth_entry, stretch_nth, stretch_past}
+use Rattle.caches.proofs.Rows.{kth_entry, stretch_nth, stretch_past}
 use Rattle.caches.proofs.keeper.Keeper.kth.Goals as goal
 
 pub returns-then-k-lines : goal.returns-then-k-lines

@@ -2,8 +2,8 @@ use Rattle.std.proofs.Common.{◌≡◌, ◌+◌, ◌<◌, ◌≤◌, [], ◌∷
 use Rattle.std.proofs.ResultArms.{chosen}
 use Rattle.caches.specs.Entries.{entry}
 use Rattle.caches.specs.Slots.{slot_entries, Fit}
-use Rattle.caches.specs.Lists.{not_added, added_end}
-use Rattle.caches.specs.Rows.{fit_grown, lens_grown, entries_grown, linked_grown, room_is, room_facts}
+use Rattle.caches.proofs.Lists.{not_added, added_end}
+use Rattle.caches.proofs.Rows.{fit_grown, lens_grown, entries_grown, linked_grown, room_is, room_facts}
 use Rattle.caches.proofs.keeper.KeeperCache.add.Goals as goal
 use Rattle.caches.proofs.keeper.KeeperCache.add.Goals.{After-enlist}
 
@@ -37,28 +37,16 @@ invariant_of-self c =
     let slots = vec_items s.slots in
     let slots' = vec_items c.push_reserved.new.self in
     let one = c.push_reserved.ensures.items in
-    let index = c.enlist.ensures.enlists in (
-      (omega (arith, c.push_reserved.ensures.capacity, s.room.0), omega (arith, c.extend_from_slice.ensures.capacity, s.room.1), omega (arith, c.enlist.ensures.capacity, s.room.2)),
-      (
-        (omega (arith, c.push_reserved.ensures.len, h.0), omega (arith, t.1, h.2), omega (arith, c.enlist.ensures.len, c.push_reserved.ensures.len, s.few.2)),
-        (
-          fit_grown slots slots' _ one (vec_len s.answers) (vec_len c.extend_from_slice.new.self) s.fit (omega (arith, t.1)) (omega (arith, t.1, c.len.ensures)),
-          (
-            lens_grown slots slots' _ one ∙ ap (λ n. n + length c.args.answers.now) s.filled ∙ sym t.1,
-            (
-              index.sorted,
-              (
-                λ k d lt. omega (arith, index.below k d lt, c.len-entry.ensures, c.push_reserved.ensures.len),
-                (
-                  λ k. linked_grown slots slots' _ one (vec_items s.index) (vec_items c.enlist.new.index) k c.len-entry.result (index.numbers k) (s.linked k) (omega (arith, c.len-entry.ensures, s.slots.ok.0)),
-                  tt,
-                ),
-              ),
-            ),
-          ),
-        ),
-      ),
-    )
+    let index = c.enlist.ensures.enlists in
+    record {
+      room = (omega (arith, c.push_reserved.ensures.capacity, s.room.0), omega (arith, c.extend_from_slice.ensures.capacity, s.room.1), omega (arith, c.enlist.ensures.capacity, s.room.2));
+      few = (omega (arith, c.push_reserved.ensures.len, h.0), omega (arith, t.1, h.2), omega (arith, c.enlist.ensures.len, c.push_reserved.ensures.len, s.few.2));
+      fit = fit_grown slots slots' _ one (vec_len s.answers) (vec_len c.extend_from_slice.new.self) s.fit (omega (arith, t.1)) (omega (arith, t.1, c.len.ensures));
+      filled = lens_grown slots slots' _ one ∙ ap (λ n. n + length c.args.answers.now) s.filled ∙ sym t.1;
+      sorted = index.sorted;
+      below = λ k d lt. omega (arith, index.below k d lt, c.len-entry.ensures, c.push_reserved.ensures.len);
+      linked = λ k. linked_grown slots slots' _ one (vec_items s.index) (vec_items c.enlist.new.index) k c.len-entry.result (index.numbers k) (s.linked k) (omega (arith, c.len-entry.ensures, s.slots.ok.0));
+    }
 
 pub returns : goal.returns
 returns c =

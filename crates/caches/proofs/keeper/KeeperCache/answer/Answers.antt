@@ -1,7 +1,7 @@
-use Rattle.std.proofs.Common.{◌≡◌, vec_items, sym, ap, ◌∙◌, arith}
+use Rattle.std.proofs.Common.{vec_items, sym, ap, ◌∙◌, arith}
 use Rattle.std.specs.List.{slice_get}
 use Rattle.caches.specs.Entries.{answers_of}
-use Rattle.caches.specs.Rows.{within_part, past_part}
+use Rattle.caches.proofs.Rows.{within_part, past_part}
 use Rattle.caches.proofs.keeper.KeeperCache.answer.Goals as goal
 
 pub returns-then-j-slot : goal.returns-then-j-slot

@@ -1,5 +1,5 @@
 use Rattle.std.proofs.Common.{vec_items}
-use Rattle.caches.specs.Rows.{stretch_length}
+use Rattle.caches.proofs.Rows.{stretch_length}
 use Rattle.caches.proofs.keeper.KeeperCache.count.Goals as goal
 
 pub returns : goal.returns

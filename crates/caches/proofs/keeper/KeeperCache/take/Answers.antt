@@ -2,7 +2,7 @@ use Rattle.std.proofs.Common.{◌≡◌, Some, None, vec_items, sym, refl, ap}
 use Rattle.std.specs.Option.{option_map}
 use Rattle.caches.specs.Entries.{Entry, product_at}
 use Rattle.caches.specs.Slots.{slot_entries}
-use Rattle.caches.specs.Lists.{took_looked}
+use Rattle.caches.proofs.Lists.{took_looked}
 use Rattle.caches.proofs.keeper.KeeperCache.take.Goals as goal
 
 pub returns-in-Some : goal.returns-in-Some

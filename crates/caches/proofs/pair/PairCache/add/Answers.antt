@@ -1,6 +1,6 @@
 use Rattle.std.proofs.Common.{refl}
 use Rattle.caches.specs.Entries.{entry}
-use Rattle.caches.specs.Lists.{added_both}
+use Rattle.caches.proofs.Lists.{added_both}
 use Rattle.caches.proofs.pair.PairCache.add.Goals as goal
 
 pub returns : goal.returns

@@ -1,7 +1,7 @@
-use Rattle.std.proofs.Common.{◌≡◌, sym, ap, ◌∙◌}
+use Rattle.std.proofs.Common.{sym, ap, ◌∙◌}
 use Rattle.std.specs.List.{slice_get}
 use Rattle.caches.specs.Entries.{answers_of}
-use Rattle.caches.specs.Lists.{at_left, at_right}
+use Rattle.caches.proofs.Lists.{at_left, at_right}
 use Rattle.caches.proofs.pair.PairCache.answer.Goals as goal
 
 pub returns-then-k-n : goal.returns-then-k-n

@@ -1,10 +1,10 @@
-use Rattle.std.proofs.Common.{◌≡◌, length, sym, ap, ◌∙◌, arith, length-append}
+use Rattle.std.proofs.Common.{length, ap, ◌∙◌, arith, length-append}
 use Rattle.caches.specs.Entries.{with_key}
-use Rattle.caches.specs.Lists.{with_key_append, with_key_length}
+use Rattle.caches.proofs.Lists.{with_key_append, with_key_length}
 use Rattle.caches.proofs.pair.PairCache.count.Goals as goal
 
-pub overflow-add-result : goal.overflow-add-result
-overflow-add-result g c =
+pub overflow_add-result : goal.overflow_add-result
+overflow_add-result g c =
     let s = c.args.self.now in
     omega (arith, c.count.ensures, c.count-2.ensures, with_key_length c.args.key (g.N.Cache.held s.near), with_key_length c.args.key (g.F.Cache.held s.far), g.met.N.Cache.bounded s.near, g.met.F.Cache.bounded s.far, g.met.N.Beside.fits)
 

@@ -1,6 +1,6 @@
-use Rattle.std.proofs.Common.{◌≡◌, ◌-◌, ◌<◌, ◌≤◌, length, take, Some, None, sym, refl, ap, ◌∙◌, subst, inl, arith}
+use Rattle.std.proofs.Common.{◌≡◌, ◌-◌, length, take, Some, None, refl, ap, ◌∙◌, inl, arith}
 use Rattle.caches.specs.Entries.{with_key, answers_at}
-use Rattle.caches.specs.Lists.{took_near, took_none, took_far}
+use Rattle.caches.proofs.Lists.{took_near, took_none, took_far}
 use Rattle.caches.proofs.Takings.{takes_far, hands}
 use Rattle.caches.proofs.pair.PairCache.take.Goals as goal
 

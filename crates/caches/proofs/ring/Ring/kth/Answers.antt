@@ -1,6 +1,6 @@
-use Rattle.std.proofs.Common.{◌≡◌, ◌-◌, take, drop, Some, None, vec_items, sym, ap, ◌∙◌, subst, MatchOption}
+use Rattle.std.proofs.Common.{◌≡◌, take, drop, Some, None, vec_items, sym, ap, ◌∙◌, subst, MatchOption}
 use Rattle.caches.specs.Rings.{ring_entry}
-use Rattle.caches.specs.Turnings.{ring_older, ring_newer}
+use Rattle.caches.proofs.Turnings.{ring_older, ring_newer}
 use Rattle.caches.proofs.ring.Ring.kth.Goals as goal
 
 pub returns-then-k-n : goal.returns-then-k-n

@@ -1,7 +1,7 @@
-use Rattle.std.proofs.Common.{◌≡◌, ◌<◌, [], ◌∷◌, ◌++◌, length, vec_items, vec_len, sym, refl, ap, ◌∙◌, arith}
+use Rattle.std.proofs.Common.{◌≡◌, ◌<◌, [], ◌∷◌, ◌++◌, length, vec_items, vec_len, sym, ap, ◌∙◌, arith}
 use Rattle.caches.specs.Exact.{newest}
 use Rattle.caches.specs.Rings.{ring_entry, ring_entries, turned}
-use Rattle.caches.specs.Turnings.{turned_push, turned_set, turned_all, map_newest}
+use Rattle.caches.proofs.Turnings.{turned_push, turned_set, turned_all, map_newest}
 use Rattle.caches.proofs.ring.Ring.put.Goals as goal
 use Rattle.caches.proofs.ring.Ring.put.Goals.{then-self-lt-ROOM, else-self-lt-ROOM}
 

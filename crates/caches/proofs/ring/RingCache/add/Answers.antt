@@ -1,10 +1,11 @@
-use Rattle.std.proofs.Common.{◌≡◌, ◌≤◌, [], ◌∷◌, ◌++◌, length, vec_items, sym, refl, ap, ◌∙◌, subst}
+use Rattle.std.proofs.Common.{◌≡◌, ◌≤◌, [], ◌∷◌, ◌++◌, length, vec_items, refl, ap, ◌∙◌, subst}
 use borrow.Author.Tests.{le-true, lt-false}
 use Rattle.caches.specs.Entries.{Entry, entry}
 use Rattle.caches.specs.Exact.{newest}
-use Rattle.caches.specs.Rings.{ring_entry, ring_entries, turned}
-use Rattle.caches.specs.Lists.{not_added}
-use Rattle.caches.specs.Turnings.{ring_added, slot_short}
+use Rattle.caches.specs.Rings.{ring_entries, turned}
+use Rattle.caches.proofs.Lists.{not_added}
+use Rattle.caches.specs.Laws.{slot_short}
+use Rattle.caches.proofs.Turnings.{ring_added}
 use Rattle.caches.proofs.ring.RingCache.add.Goals as goal
 
 pub returns-in-Some : goal.returns-in-Some

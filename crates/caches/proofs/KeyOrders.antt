@@ -1,9 +1,9 @@
 -- The order of keys is total, and keys that compare equal are the same. Assumes nothing.
-use Rattle.std.specs.Prelude.{◌≡◌, ℕ, suc, ◌<◌, Bool, true, false, List, [], ◌∷◌, map, Some, None, Option, refl}
+use Rattle.std.specs.Prelude.{◌≡◌, ℕ, suc, ◌<◌, true, List, [], ◌∷◌, map, Some, None, Option, refl}
 use Rattle.std.specs.declared.cmp.Ordering.TheVariants.{Less, Equal, Greater}
 use Rattle.std.specs.declared.cmp.Ordering.{Ordering}
-use Rattle.std.proofs.Common.{sym, ap, ◌∙◌, arith}
-use Rattle.std.specs.Cmp.{nat_cmp_total, ranks}
+use Rattle.std.proofs.Common.{ap, arith}
+use Rattle.std.specs.Cmp.{nat_cmp_is, ranks}
 use Rattle.std.specs.Cmp.Lexicographic.{slice_cmp}
 use Rattle.std.specs.Option.{option_cmp}
 use Rattle.std.specs.Ordering.{is_eq, ordering_then, MatchOrdering, nat_cmp}
@@ -12,7 +12,7 @@ use Rattle.caches.specs.declared.keys.Key.TheVariants.{Function, Tool}
 use Rattle.caches.specs.Keys.{value_number, key_numbers, key_order, same_key}
 
 rank_suc : (x y : ℕ) → nat_cmp x y ≡ nat_cmp (suc x) (suc y)
-rank_suc x y = (nat_cmp_total.says (suc x) (suc y) (nat_cmp x y) (go (nat_cmp x y) (ranks x y)))
+rank_suc x y = nat_cmp_is (suc x) (suc y) (nat_cmp x y) (go (nat_cmp x y) (ranks x y))
   where
     go : (r : Ordering) → MatchOrdering r (x < y) (x ≡ y) (y < x) → MatchOrdering r (suc x < suc y) (suc x ≡ suc y) (suc y < suc x)
     go Less h = omega arith
@@ -21,8 +21,8 @@ rank_suc x y = (nat_cmp_total.says (suc x) (suc y) (nat_cmp x y) (go (nat_cmp x 
 
 rank_value : (p q : Option ℕ) → option_cmp nat_cmp p q ≡ nat_cmp (value_number p) (value_number q)
 rank_value None None = refl
-rank_value None (Some y) = nat_cmp_total.says 0 (suc y) Less (omega arith)
-rank_value (Some x) None = nat_cmp_total.says (suc x) 0 Greater (omega arith)
+rank_value None (Some y) = nat_cmp_is 0 (suc y) Less (omega arith)
+rank_value (Some x) None = nat_cmp_is (suc x) 0 Greater (omega arith)
 rank_value (Some x) (Some y) = rank_suc x y
 
 -- values compare as their numbers

@@ -1,5 +1,5 @@
 -- Laws of entries and of what calls may answer. Assumes nothing.
-use Rattle.std.specs.Prelude.{◌≡◌, ℕ, zero, suc, ◌+◌, ◌-◌, ◌<◌, ◌≤◌, Bool, true, false, cond, ◌||◌, ◌⊎◌, List, [], ◌∷◌, ◌++◌, length, Some, None, Option, refl}
+use Rattle.std.specs.Prelude.{◌≡◌, ℕ, zero, suc, ◌-◌, ◌<◌, ◌≤◌, Bool, true, false, cond, ◌||◌, List, [], ◌∷◌, ◌++◌, length, Some, None, Option, refl}
 use Rattle.std.proofs.Common.{sym, ap, subst, ◌∙◌, inl, inr, ⊎_elim, arith}
 use Rattle.std.specs.List.{slice_get}
 use Rattle.std.specs.Option.{option_map}
@@ -8,7 +8,8 @@ use Rattle.caches.specs.declared.questions.Answered.{Answered}
 use Rattle.caches.specs.Keys.{same_key}
 use Rattle.caches.specs.Entries.{Entry, entry, with_key, answers_of, answers_at, product_at, Member, Within, Took, Added, AllShort}
 use Rattle.caches.specs.Exact.{Looks}
-use Rattle.caches.specs.KeyOrders.{same_key_same}
+use Rattle.caches.specs.Laws.{member_split}
+use Rattle.caches.proofs.KeyOrders.{same_key_same}
 
 pub with_key_append : (k : Key) (a b : List Entry) → with_key k (a ++ b) ≡ with_key k a ++ with_key k b
 with_key_append k [] b = refl
@@ -40,11 +41,6 @@ member_left e (x ∷ a) b (inr p) = inr (member_left e a b p)
 pub member_right : (e : Entry) (a b : List Entry) → Member e b → Member e (a ++ b)
 member_right e [] b h = h
 member_right e (x ∷ a) b h = inr (member_right e a b h)
-
-pub member_split : (e : Entry) (a b : List Entry) → Member e (a ++ b) → Member e a ⊎ Member e b
-member_split e [] b h = inr h
-member_split e (x ∷ a) b (inl p) = inl (inl p)
-member_split e (x ∷ a) b (inr p) = ⊎_elim (λ q. inl (inr q)) (λ q. inr q) (member_split e a b p)
 
 pub within_left : (a' a b : List Entry) → Within a' a → Within (a' ++ b) (a ++ b)
 within_left a' a b w x m = ⊎_elim (λ l. member_left x a b (w x l)) (λ r. member_right x a b r) (member_split x a' b m)

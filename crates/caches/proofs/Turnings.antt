@@ -1,15 +1,16 @@
 -- Laws of a ring's entries. Assumes nothing.
-use Rattle.std.specs.Prelude.{◌≡◌, ℕ, zero, suc, ◌+◌, ◌-◌, ◌<◌, ◌≤◌, Bool, true, false, cond, ◌⊎◌, List, [], ◌∷◌, ◌++◌, map, length, take, drop, Some, None, slice_index_or, slice_set, refl}
-use Rattle.std.proofs.Common.{sym, ap, subst, ◌∙◌, append_assoc, append-nil, inl, inr, ⊎_elim, arith, length-take, length-drop, length-append, length-set}
+use Rattle.std.specs.Prelude.{◌≡◌, ℕ, zero, suc, ◌+◌, ◌-◌, ◌<◌, ◌≤◌, Bool, true, false, cond, List, [], ◌∷◌, ◌++◌, map, length, take, drop, slice_index_or, slice_set}
+use Rattle.std.proofs.Common.{sym, ap, ◌∙◌, append_assoc, append-nil, inr, arith, length-append}
 use Rattle.std.specs.List.{slice_get}
 use Rattle.std.proofs.lemmas.List.{drop_more, drop_all, drop-append-le, drop-map, map_push, length_push, take_more_set, take_all, drop-set-lt, map-append, length-map}
 use Rattle.caches.specs.declared.keys.Key.{Key}
 use Rattle.caches.specs.declared.ring_slots.RingSlot.{RingSlot}
 use Rattle.caches.specs.Keys.{same_key}
-use Rattle.caches.specs.Entries.{Entry, with_key, Member, Added, AllShort}
+use Rattle.caches.specs.Entries.{Entry, with_key, Member, Added}
 use Rattle.caches.specs.Exact.{newest}
+use Rattle.caches.specs.Laws.{length_turned}
 use Rattle.caches.specs.Rings.{ring_entry, ring_entries, turned}
-use Rattle.caches.specs.Lists.{added_end, with_key_append, with_key_length, at_left, at_right}
+use Rattle.caches.proofs.Lists.{added_end, with_key_append, with_key_length, at_left, at_right}
 
 module _ (key : Key) (slots : List RingSlot) (i : ℕ) (s : RingSlot) (within : i < length slots) (read : s ≡ slice_index_or slots i s) where
   abbrev rest : List Entry
@@ -33,17 +34,6 @@ ring_ended key slots i h = ap (λ l. with_key key (ring_entries l)) (drop_all i 
 pub nth_more : {X : Type 0} (l m : List X) (s : X) (k : ℕ) → 0 < k → l ≡ s ∷ m → slice_get l k ≡ slice_get m (k - 1)
 nth_more l m s zero h e = absurd (omega arith)
 nth_more l m s (suc k) h e = ap (λ x. slice_get x (suc k)) e ∙ ap (slice_get m) (omega arith)
-
-pub slot_short : (s : RingSlot) → length (ring_entry s).answers ≤ 64
-slot_short s = simp length-take (omega (arith, s.few))
-
-pub ring_short : (slots : List RingSlot) → AllShort (ring_entries slots)
-ring_short [] e m = absurd m
-ring_short (s ∷ ss) e (inl p) = subst (λ (x : Entry). length x.answers ≤ 64) (sym p) (slot_short s)
-ring_short (s ∷ ss) e (inr m) = ring_short ss e m
-
-pub length_turned : {X : Type 0} (n : ℕ) (xs : List X) → length (turned n xs) ≡ length xs
-length_turned n xs = simp (length-append, length-take, length-drop) (omega arith)
 
 -- one more while there is room
 pub turned_push : {X : Type 0} (xs : List X) (x : X) (n : ℕ) → n ≡ 0 → length xs < 16 → turned n (xs ++ x ∷ []) ≡ newest 16 (turned n xs ++ x ∷ [])

@@ -1,6 +1,6 @@
 -- Laws of the slots of a keeper. Assumes nothing.
-use Rattle.std.specs.Prelude.{◌≡◌, ℕ, zero, suc, ◌+◌, ◌-◌, ◌<◌, ◌≤◌, Bool, true, false, cond, ◌&&◌, ◌⊎◌, List, [], ◌∷◌, ◌++◌, map, length, get_or, take, drop, Some, None, Option, nat_le, nat_lt, slice_index_or, refl}
-use Rattle.std.proofs.Common.{sym, ap, subst, ◌∙◌, inl, inr, arith, length-take, length-drop, ltb-true, leb-true}
+use Rattle.std.specs.Prelude.{◌≡◌, ℕ, zero, suc, ◌+◌, ◌-◌, ◌<◌, ◌≤◌, Bool, true, false, cond, ◌&&◌, List, [], ◌∷◌, ◌++◌, map, length, get_or, take, drop, Some, None, Option, nat_le, nat_lt, slice_index_or, refl}
+use Rattle.std.proofs.Common.{sym, ap, subst, ◌∙◌, arith, length-take, length-drop, ltb-true, leb-true}
 use Rattle.std.specs.List.{slice_get}
 use Rattle.std.specs.Option.{option_map}
 use Rattle.std.proofs.lemmas.List.{get_or-take, get_or-drop, take-append-le, drop-append-le, take_all, drop_at, map_push, drop-drop, length-map}
@@ -11,7 +11,7 @@ use Rattle.caches.specs.declared.keeper_slots.Slot.{Slot}
 use Rattle.caches.specs.declared.keeper_slots.Indexed.{Indexed}
 use Rattle.caches.specs.declared.keeper_slots.Stretch.{Stretch}
 use Rattle.caches.specs.Keys.{same_key}
-use Rattle.caches.specs.Entries.{Entry, entry, with_key, AllShort}
+use Rattle.caches.specs.Entries.{Entry, entry, with_key}
 use Rattle.caches.specs.Exact.{all_answers, has_room}
 use Rattle.caches.specs.Slots.{slot_entry, slot_entries, Fit, all_lens, places}
 use Rattle.caches.specs.Lines.{lines_with, numbers_with, Spans}
@@ -75,11 +75,6 @@ within_part row from len j q h w e =
 
 pub past_part : (row : List Answered) (from len j : ℕ) → len ≤ j → slice_get (take len (drop from row)) j ≡ None
 past_part row from len j h = slice_get_past (take len (drop from row)) j (simp length-take (omega arith))
-
-pub slots_short : (slots : List Slot) (row : List Answered) → AllShort (slot_entries slots row)
-slots_short [] row e m = absurd m
-slots_short (s ∷ ss) row e (inl p) = subst (λ (x : Entry). length x.answers ≤ 64) (sym p) (simp length-take (omega (arith, s.few)))
-slots_short (s ∷ ss) row e (inr m) = slots_short ss row e m
 
 -- all answers of the entries are those of the slots
 pub answers_lens : (slots : List Slot) (row : List Answered) → Fit slots (length row) → all_answers (slot_entries slots row) ≡ all_lens slots
