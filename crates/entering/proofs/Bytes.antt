@@ -7,7 +7,7 @@ use Rattle.values.specs.Limits.{name_byte, name_bytes}
 use Rattle.trees.specs.Files.{prefixed}
 use Rattle.trees.proofs.Splits.{both}
 use Rattle.trees.proofs.Spellings.{never}
-use Rattle.entering.specs.Levels.{front_name, Goes_on}
+use Rattle.entering.specs.Levels.{front_name, GoesOn}
 
 -- the name bytes in front
 front_stops : (b : ℕ) (bs : List ℕ) → name_byte b ≡ false → front_name (b ∷ bs) ≡ []
@@ -39,7 +39,7 @@ pub count_all : (bs : List ℕ) (i total : ℕ) → i ≤ length bs → length b
 count_all bs i total g h k = let a = at_drop_all (λ l. length (front_name l)) bs i h in omega arith
 
 -- bytes that are there and begin with a prefix
-pub goes_on_decides : (p s : List ℕ) (r : Bool) → 0 < length s → (r ≡ true → s ≡ p ++ drop (length p) s) × ((rest : List ℕ) → s ≡ p ++ rest → r ≡ true) → Decides r (Goes_on p s)
+pub goes_on_decides : (p s : List ℕ) (r : Bool) → 0 < length s → (r ≡ true → s ≡ p ++ drop (length p) s) × ((rest : List ℕ) → s ≡ p ++ rest → r ≡ true) → Decides r (GoesOn p s)
 goes_on_decides p s r h d =
     (λ e. record { begins = record { rest = drop (length p) s; is = d.0 e }; some_left = h }, λ g. d.1 g.begins.rest g.begins.is)
 

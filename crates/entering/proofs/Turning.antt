@@ -7,7 +7,7 @@ use Rattle.values.specs.Limits.{many}
 use Rattle.values.specs.Table.{Table}
 use Rattle.values.specs.declared.parts.Member.{Member}
 use Rattle.entering.specs.Entries.{parts, member_parts, enter_all}
-use Rattle.entering.specs.Levels.{member_bytes, Goes_on, Ends, Sound, Level, Single}
+use Rattle.entering.specs.Levels.{member_bytes, GoesOn, Ends, Sound, Level, Single}
 use Rattle.entering.specs.Steps.{Extends, Stands, Ready, EntersMembers, MemberEntered}
 use Rattle.entering.specs.declared.answers.Full.{Full}
 use Rattle.entering.specs.declared.answers.EnteredMember.{EnteredMember}
@@ -46,7 +46,7 @@ pub record Next (T₀ : Table) (prefix left : List ℕ) (levels : ℕ) (T : Tabl
   pub more : (e : EnteredMember) (T' : Table) → MemberEntered name value rest T (Ok e) T' → Turn T₀ prefix e.rest.now levels T' (l ++ e.member ∷ []) ms after
   pub full : (e : Full) (T' : Table) → MemberEntered name value rest T (Err e) T' → (enter_all (parts (binding ms)) T₀ ≡ none) × Extends T₀ T'
 
-goes_on : (prefix left : List ℕ) (n : Name) (v : Value) (ms : Members) (after : List ℕ) → left ≡ member_bytes prefix (cons n v ms) ++ after → Goes_on prefix left
+goes_on : (prefix left : List ℕ) (n : Name) (v : Value) (ms : Members) (after : List ℕ) → left ≡ member_bytes prefix (cons n v ms) ++ after → GoesOn prefix left
 goes_on prefix left n v ms after e =
     let f = value_front (prefix ++ n) v in
     let others = member_bytes prefix ms in
@@ -68,11 +68,11 @@ fewer prefix left n v ms after e =
     let longer = length-append (prefix ++ n) (f.mark ∷ f.rest) in
     omega arith
 
-pub next : (T₀ : Table) (prefix left : List ℕ) (levels : ℕ) (T : Table) (l : List Member) (ms : Members) (after : List ℕ) → levels ≤ 16 → Ends prefix after → Goes_on prefix left → Turn T₀ prefix left levels T l ms after → Next T₀ prefix left levels T l ms after
+pub next : (T₀ : Table) (prefix left : List ℕ) (levels : ℕ) (T : Table) (l : List Member) (ms : Members) (after : List ℕ) → levels ≤ 16 → Ends prefix after → GoesOn prefix left → Turn T₀ prefix left levels T l ms after → Next T₀ prefix left levels T l ms after
 next T₀ prefix left levels T l ms after d h g t = go t.to_come t.lines t.sound t.all t.entered t.stands
   where
     go : (ns : Members) → left ≡ member_bytes prefix ns ++ after → Sound ns levels → length l + many ns ≡ many ms → enter_all (member_parts ms) T₀ ≡ enter_all (member_parts ns) T → ((T' : Table) (k : List Member) → Extends T T' → Stands T' k ns → Stands T' (l ++ k) ms) → Next T₀ prefix left levels T l ms after
-    go nil e s a f k = absurd (h (subst (Goes_on prefix) (e ∙ ap (λ b. b ++ after) (none_left prefix)) g))
+    go nil e s a f k = absurd (h (subst (GoesOn prefix) (e ∙ ap (λ b. b ++ after) (none_left prefix)) g))
     go (cons n v ns) e s a f k = record {
       name = n;
       value = v;
@@ -103,7 +103,7 @@ pub record Done (T₀ : Table) (left : List ℕ) (T : Table) (l : List Member) (
   pub entered : enter_all (member_parts ms) T₀ ≡ some T
   pub grown : Extends T₀ T
 
-pub done : (T₀ : Table) (prefix left : List ℕ) (levels : ℕ) (T : Table) (l : List Member) (ms : Members) (after : List ℕ) → (Goes_on prefix left → ⊥) → Turn T₀ prefix left levels T l ms after → Done T₀ left T l ms after
+pub done : (T₀ : Table) (prefix left : List ℕ) (levels : ℕ) (T : Table) (l : List Member) (ms : Members) (after : List ℕ) → (GoesOn prefix left → ⊥) → Turn T₀ prefix left levels T l ms after → Done T₀ left T l ms after
 done T₀ prefix left levels T l ms after g t = go t.to_come t.lines t.entered t.stands
   where
     go : (ns : Members) → left ≡ member_bytes prefix ns ++ after → enter_all (member_parts ms) T₀ ≡ enter_all (member_parts ns) T → ((T' : Table) (k : List Member) → Extends T T' → Stands T' k ns → Stands T' (l ++ k) ms) → Done T₀ left T l ms after

@@ -39,13 +39,13 @@ pub record Begins (prefix bytes : List ℕ) : Type 0 where
   pub is : bytes ≡ prefix ++ rest
 
 -- there is a line more under a prefix
-pub record Goes_on (prefix bytes : List ℕ) : Type 0 where
+pub record GoesOn (prefix bytes : List ℕ) : Type 0 where
   pub begins : Begins prefix bytes
   pub some_left : 0 < length bytes
 
 -- what stands behind a level does not belong to it
 abbrev pub Ends : List ℕ → List ℕ → Type 0
-Ends prefix after = Goes_on prefix after → ⊥
+Ends prefix after = GoesOn prefix after → ⊥
 
 -- members by the rules, of bindings that are at most so high
 pub record Sound (ms : Members) (levels : ℕ) : Type 0 where

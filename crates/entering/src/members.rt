@@ -1,7 +1,7 @@
 // Entering members from their lines. All the paths of a binding's members begin with the same bytes, the prefix.
 ghost use Rattle.std.specs.Prelude.{◌≡◌, length, Decides};
 ghost use Rattle.values.specs.Memory.{values};
-ghost use Rattle.entering.specs.Levels.{front_name, Goes_on, HasLevel, HasValue, HasMember};
+ghost use Rattle.entering.specs.Levels.{front_name, GoesOn, HasLevel, HasValue, HasMember};
 ghost use Rattle.entering.specs.Steps.{EntersLevel, EntersValue, EntersMember};
 
 use crate::answers::{EnteredMember, EnteredValue, Full};
@@ -26,7 +26,7 @@ fn name_len(bytes: &[u8]) -> usize
 
 // Whether there is one more line under a prefix.
 fn goes_on(bytes: &[u8], prefix: &[u8]) -> bool
-    ensures { Decides result (Goes_on prefix.now bytes.now) }
+    ensures { Decides result (GoesOn prefix.now bytes.now) }
 {
     !bytes.is_empty() && bytes.starts_with(prefix)
 }
