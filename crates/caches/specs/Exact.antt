@@ -35,16 +35,16 @@ Turns e before r after = (r ≡ nat_le (length e.answers) 64) × (after ≡ cond
 
 -- near is offered the entry that far gave, and stays as it is where far gave none
 abbrev pub Handed : {N : Type 0} → (Entry → N → Bool → N → Type 0) → Option Entry → Option ℕ → N → N → Type 0
-Handed adds-N it None n n' = n' ≡ n
-Handed adds-N it (Some p) n n' = (e : Entry) × (it ≡ Some e) × ((b : Bool) × adds-N e n b n')
+Handed adds_near it None n n' = n' ≡ n
+Handed adds_near it (Some p) n n' = (e : Entry) × (it ≡ Some e) × ((b : Bool) × adds_near e n b n')
 
-module _ {N F : Type 0} (adds-N : Entry → N → Bool → N → Type 0) where
+module _ {N F : Type 0} (adds_near : Entry → N → Bool → N → Type 0) where
   -- offered to both, and kept if either keeps it
   abbrev pub AddsBoth : (Entry → F → Bool → F → Type 0) → Entry → N → F → Bool → N → F → Type 0
-  AddsBoth adds-F e n f r n' f' = (p : Bool) × (q : Bool) × adds-N e n p n' × adds-F e f q f' × (r ≡ (p || q))
+  AddsBoth adds_far e n f r n' f' = (p : Bool) × (q : Bool) × adds_near e n p n' × adds_far e f q f' × (r ≡ (p || q))
 
   -- the k-th is taken from near, if it is among near's c entries of that key; else from far, and offered to near
   abbrev pub TakesEither : (Key → ℕ → N → Option ℕ → N → Type 0) → (Key → ℕ → F → Option ℕ → F → Type 0) → Key → ℕ → ℕ → List Entry → N → F → Option ℕ → N → F → Type 0
-  TakesEither takes-N takes-F key k c far n f r n' f' =
-      ((k < c) × takes-N key k n r n' × (f' ≡ f))
-      ⊎ ((c ≤ k) × takes-F key (k - c) f r f' × Handed adds-N (slice_get (with_key key far) (k - c)) r n n')
+  TakesEither takes_near takes_far key k c far n f r n' f' =
+      ((k < c) × takes_near key k n r n' × (f' ≡ f))
+      ⊎ ((c ≤ k) × takes_far key (k - c) f r f' × Handed adds_near (slice_get (with_key key far) (k - c)) r n n')
