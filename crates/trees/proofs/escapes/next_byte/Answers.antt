@@ -11,7 +11,7 @@ returns-in-Some c =
     let l = c.args.content.now in
     let long : 2 ≤ length l = search rules in
     let first : get_or l 0 0 ≡ 92 = search rules in
-    pair l c.in-Some.byte long first c.in-Some.ensures
+    pair l _ long first c.in-Some.ensures
 
 pub returns-in-92-2 : goal.returns-in-92-2
 returns-in-92-2 c =
