@@ -16,5 +16,7 @@ mod table;
 
 pub use crate::examples::examples_hold;
 pub use crate::names::{is_name, is_name_byte, order, same};
-pub use crate::parts::{Content, Member, Number, Unentered};
+pub use crate::parts::{
+    Content, GREATEST_HEIGHT, LONGEST_TEXT, MOST_MEMBERS, Member, Number, Unentered,
+};
 pub use crate::store::Table;
