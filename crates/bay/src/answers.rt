@@ -1,13 +1,14 @@
 // Answering commands.
-use crate::bench::{Bench, Job};
+use crate::bench::Bench;
 use crate::files::read_file;
-use crate::sentences::{TABLE_FULL, tell_refused};
+use crate::sentences::{tell_full, tell_refused};
 use crate::stored::tell_caches;
-use checker::{Checker, Shown};
+use checker::{Checker, Unshown};
 use commands::{Command, command};
 use std::alloc::{AllocError, Global};
 use std::io;
 use std::io::Write;
+use tools::Call;
 
 const HELP: &str =
     "tree FILE                check a tree file and list its value\ntool NAME WORDS.. FILE   run a tool over a tree file, the words between being its command\ncaches                   fill, take from and clear each kind of cache, and tell its entries\nhelp                     tell the commands\n# ...                    a remark\n";
@@ -19,7 +20,8 @@ pub(crate) struct Desk {
     pub(crate) bench: Bench,
 }
 
-// Writes words behind `> `, a blank before each but the first.
+// Writes words behind `> `, a blank before each but the first. Words are bytes, which need not be text, so that no `Display` serves, here and
+// where files, texts and paths are told.
 fn echo(rt: &HostRuntime, words: &[&[u8]]) -> io::Result<()> {
     let mut out = rt.stdout();
     out.write_all(b">")?;
@@ -40,22 +42,26 @@ fn tell_unreadable(rt: &HostRuntime, file: &[u8]) -> io::Result<()> {
 
 // Tells what value the bytes of a tree file are, or why they are refused.
 fn tell_tree(rt: &HostRuntime, checker: &mut Checker, bytes: &[u8]) -> io::Result<()> {
-    let shown = checker.show(bytes);
-    let number = shown.number();
-    match shown {
-        Shown::Listed(len) => {
+    match checker.show(bytes) {
+        Ok(len) => {
             println!(rt; "accepted")?;
             rt.stdout().write_all(checker.front(len))
         }
-        Shown::Refused(refused) => tell_refused(rt, refused),
-        Shown::Full => println!(rt; "refused {number}: {TABLE_FULL}"),
+        Err(Unshown::Refused(refused)) => tell_refused(rt, refused),
+        Err(Unshown::Full) => tell_full(rt),
     }
 }
 
-// Reads a tree file and tells what it is.
-fn answer_tree(rt: &HostRuntime, checker: &mut Checker, file: &[u8]) -> io::Result<()> {
+// Reads a file and tells of its bytes, or that it cannot be read.
+fn tell_file<F: FnOnce(&[u8]) -> io::Result<()>>(
+    rt: &HostRuntime,
+    file: &[u8],
+    tell: F,
+) -> io::Result<()>
+    requires { F.IsAlwaysCallable tell }
+{
     match read_file(rt, file) {
-        Ok(bytes) => tell_tree(rt, checker, &bytes),
+        Ok(bytes) => tell(&bytes),
         Err(_) => tell_unreadable(rt, file),
     }
 }
@@ -63,21 +69,16 @@ fn answer_tree(rt: &HostRuntime, checker: &mut Checker, file: &[u8]) -> io::Resu
 // The command of a tool: all words but the first two and the last, a blank between them.
 fn tool_command(heap: Global, words: &[&[u8]]) -> Result<Vec<u8>, AllocError> {
     let mut command = Vec::new(heap);
-    for index in 2..words.len().max(3) - 1 {
-        if index > 2 {
+    let [_, _, between @ .., _] = words else {
+        return Ok(command);
+    };
+    for (i, word) in between.iter().enumerate() {
+        if i > 0 {
             command.push(b' ')?;
         }
-        command.extend_from_slice(words[index])?;
+        command.extend_from_slice(*word)?;
     }
     Ok(command)
-}
-
-// Reads a tree file and runs a tool over it.
-fn answer_tool(rt: &HostRuntime, bench: &mut Bench, job: Job<'_>, file: &[u8]) -> io::Result<()> {
-    match read_file(rt, file) {
-        Ok(bytes) => bench.tell_run(rt, job, &bytes),
-        Err(_) => tell_unreadable(rt, file),
-    }
 }
 
 // Echoes a command and answers it. An empty line and a remark have no words, and are passed over.
@@ -88,14 +89,14 @@ pub(crate) fn answer(rt: &HostRuntime, desk: &mut Desk, words: &[&[u8]]) -> io::
     echo(rt, words)?;
     match command(words) {
         Command::Nothing => Ok(()),
-        Command::Tree(file) => answer_tree(rt, &mut desk.checker, file),
+        Command::Tree(file) => tell_file(rt, file, |bytes| tell_tree(rt, &mut desk.checker, bytes)),
         Command::Tool(name, file) => {
             let command = tool_command(rt.alloc(), words)?;
-            let job = Job {
+            let call = Call {
                 name,
                 command: &command,
             };
-            answer_tool(rt, &mut desk.bench, job, file)
+            tell_file(rt, file, |bytes| desk.bench.tell_run(rt, call, bytes))
         }
         Command::Caches => tell_caches(rt),
         Command::Help => rt.stdout().write_all(HELP.as_bytes()),

@@ -1,16 +1,17 @@
 // Running a tool over a tree file.
-use crate::sentences::{BAD_PATH, NO_ROOM, TABLE_FULL, tell_refused};
+use crate::sentences::{tell_full, tell_refused};
 use entering::enter;
+use listing::escaped;
 use std::alloc::{AllocError, Global};
 use std::io;
 use std::io::Write;
-use toolrun::{Event, ToolRun};
-use tools::{Cat, First, Heard, MAX_BYTES, SideBySide, Toolbox};
+use toolrun::{Fault, MAX_ANSWERS, Scope, ToolRun};
+use tools::{Call, Cat, First, Reply, SideBySide, Toolbox};
 use trees::{Tree, check};
 use values::{Number, Table};
 
-// The most steps of a run: 16 fetches, and one step more, which ends it.
-const MAX_STEPS: usize = 17;
+// The most steps of a run: a fetch for each answer, and one step more, which ends it.
+const MAX_STEPS: usize = MAX_ANSWERS + 1;
 
 // The value table that trees are entered into, and the answers of a run.
 #[derive(Drop)]
@@ -19,23 +20,11 @@ pub(crate) struct Bench {
     run: ToolRun,
 }
 
-// A tool's name and its command.
-#[derive(Clone, Copy)]
-pub(crate) struct Job<'a> {
-    pub(crate) name: &'a [u8],
-    pub(crate) command: &'a [u8],
-}
-
 // Writes a text as it stands in a tree file, and ends the line.
 fn tell_text(rt: &HostRuntime, text: &[u8]) -> io::Result<()> {
     let mut out = rt.stdout();
     for byte in text {
-        match *byte {
-            b'\\' => out.write_all(b"\\\\")?,
-            b'\n' => out.write_all(b"\\n")?,
-            b'\t' => out.write_all(b"\\t")?,
-            other => out.write_all(&[other])?,
-        }
+        out.write_all(escaped(byte))?;
     }
     out.write_all(b"\n")
 }
@@ -47,29 +36,19 @@ fn tell_line(rt: &HostRuntime, word: &[u8], text: &[u8]) -> io::Result<()> {
     tell_text(rt, text)
 }
 
-// The first bytes of a buffer.
-fn front(out: &[u8; MAX_BYTES], len: usize) -> &[u8] {
-    &out[0..len.min(out.len())]
-}
-
 // Tells an answer to a fetch.
-fn tell_answer(rt: &HostRuntime, heard: Heard<'_>) -> io::Result<()> {
-    match heard {
-        Heard::Found(text) => tell_line(rt, b"found", text),
-        _ => println!(rt; "found nothing"),
+fn tell_answer(rt: &HostRuntime, answer: Option<&[u8]>) -> io::Result<()> {
+    match answer {
+        Some(text) => tell_line(rt, b"found", text),
+        None => println!(rt; "found nothing"),
     }
 }
 
-// Tells how a run ends.
-fn tell_end(rt: &HostRuntime, event: Event, out: &[u8; MAX_BYTES]) -> io::Result<()> {
-    let number = event.number();
-    match event {
-        Event::Fetched(_) => Ok(()),
-        Event::Product(len) => tell_line(rt, b"product", front(out, len)),
-        Event::Failure(code) => println!(rt; "failure {code}"),
-        Event::BadPath => println!(rt; "refused {number}: {BAD_PATH}"),
-        Event::NoRoom => println!(rt; "refused {number}: {NO_ROOM}"),
-        Event::Unknown => println!(rt; "no such command of a tool: it has over 1,024 bytes"),
+// Tells why a run cannot go on.
+fn tell_fault(rt: &HostRuntime, fault: Fault) -> io::Result<()> {
+    match fault.number() {
+        Some(number) => println!(rt; "refused {number}: {fault}"),
+        None => println!(rt; "{fault}"),
     }
 }
 
@@ -86,37 +65,43 @@ impl Bench {
         &mut self,
         rt: &HostRuntime,
         toolbox: &X,
-        job: Job<'_>,
+        call: Call<'_>,
         root: Number,
     ) -> io::Result<()> {
-        let mut out = [0; MAX_BYTES];
         self.run.restart();
+        let scope = Scope {
+            table: &self.table,
+            root,
+        };
         for position in 0..MAX_STEPS {
-            let event = self.run.step(toolbox, job.name, job.command, &self.table, root, &mut out);
-            let Event::Fetched(len) = event else {
-                return tell_end(rt, event, &out);
-            };
-            tell_line(rt, b"fetch", front(&out, len))?;
-            tell_answer(rt, self.run.answers().get(position))?;
+            match self.run.step(toolbox, call, scope) {
+                Ok(Reply::Fetch(path)) => {
+                    tell_line(rt, b"fetch", path.as_slice())?;
+                    tell_answer(rt, self.run.answers().get(position).flatten())?;
+                }
+                Ok(Reply::Product(text)) => return tell_line(rt, b"product", text.as_slice()),
+                Ok(Reply::Failure(code)) => return println!(rt; "failure {code}"),
+                Err(fault) => return tell_fault(rt, fault),
+            }
         }
         Ok(())
     }
 
     // Enters an accepted tree, runs a tool over it, and takes the tree out of the table again.
-    fn run_in(&mut self, rt: &HostRuntime, job: Job<'_>, tree: &Tree<'_>) -> io::Result<()> {
+    fn run_in(&mut self, rt: &HostRuntime, call: Call<'_>, tree: &Tree<'_>) -> io::Result<()> {
         let toolbox = SideBySide {
             left: Cat,
             right: First,
         };
-        let Some(version) = toolbox.version(job.name) else {
+        let Some(version) = toolbox.version(call.name) else {
             return println!(rt; "no such tool");
         };
         println!(rt; "version {version}")?;
         let len = self.table.len();
         let Ok(root) = enter(tree, &mut self.table) else {
-            return println!(rt; "refused 31: {TABLE_FULL}");
+            return tell_full(rt);
         };
-        let told = self.run_over(rt, &toolbox, job, root);
+        let told = self.run_over(rt, &toolbox, call, root);
         self.table.truncate(len);
         told
     }
@@ -125,11 +110,11 @@ impl Bench {
     pub(crate) fn tell_run(
         &mut self,
         rt: &HostRuntime,
-        job: Job<'_>,
+        call: Call<'_>,
         bytes: &[u8],
     ) -> io::Result<()> {
         match check(bytes) {
-            Ok(()) => self.run_in(rt, job, &Tree { bytes }),
+            Ok(()) => self.run_in(rt, call, &Tree { bytes }),
             Err(refused) => tell_refused(rt, refused),
         }
     }

@@ -2,9 +2,10 @@
 use std::fs::File;
 use std::io;
 use std::io::Read;
+use trees::MAX_FILE;
 
 // One byte more than a tree file may have: what is longer is refused all the same.
-const MOST: u64 = 32769;
+const MOST: u64 = MAX_FILE as u64 + 1;
 
 // The bytes of a file, or as many of them as tell that it is too long.
 pub(crate) fn read_file(rt: &HostRuntime, name: &[u8]) -> io::Result<Vec<u8>> {

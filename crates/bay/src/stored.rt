@@ -1,5 +1,5 @@
 // A stored run over each kind of cache: fills it, takes from it, offers more than it holds, and clears it.
-use caches::{Answered, Cache, Found, Keeper, Key, NoCache, Pair, Question, Ring};
+use caches::{Answered, Cache, Found, Keeper, Key, NoCache, Offer, Pair, Question, Ring, recall};
 use std::io;
 use std::io::Write;
 use values::Number;
@@ -8,9 +8,6 @@ use values::Number;
 const ONE: Number = 2;
 
 const OTHER: Number = 3;
-
-// The most questions of an entry.
-const MAX_ANSWERS: u16 = 64;
 
 // The key of a tool's run: version 1, and a command under the number 9.
 fn key(tool: Number) -> Key {
@@ -40,7 +37,7 @@ fn answers(product: Number) -> [Answered; 2] {
 }
 
 // Tells what was found.
-fn tell_found(rt: &HostRuntime, j: u16, found: Found) -> io::Result<()> {
+fn tell_found(rt: &HostRuntime, j: usize, found: Found) -> io::Result<()> {
     match found {
         Found::Text(Some(text)) => println!(rt; "    question {j} found text {text}"),
         Found::Text(None) => println!(rt; "    question {j} found no function"),
@@ -51,10 +48,7 @@ fn tell_found(rt: &HostRuntime, j: u16, found: Found) -> io::Result<()> {
 // Tells the questions of the k-th entry of a tool.
 fn tell_entry<C: Cache>(rt: &HostRuntime, cache: &C, tool: Number, k: u16) -> io::Result<()> {
     println!(rt; "  tool {tool}, entry {k}")?;
-    for j in 0..MAX_ANSWERS {
-        let Some(answered) = cache.answer(key(tool), k, j) else {
-            return Ok(());
-        };
+    for (j, answered) in recall(cache, key(tool), k).iter().enumerate() {
         tell_found(rt, j, answered.found)?;
     }
     Ok(())
@@ -81,7 +75,12 @@ fn tell_counts<C: Cache>(rt: &HostRuntime, cache: &C) -> io::Result<()> {
 fn offer<C: Cache>(rt: &HostRuntime, cache: &mut C, from: Number, to: Number) -> io::Result<()> {
     let mut kept: u16 = 0;
     for product in from..to {
-        if cache.add(key(tool_of(product)), product, &answers(product)) {
+        let offered = Offer {
+            key: key(tool_of(product)),
+            product,
+            answers: &answers(product),
+        };
+        if cache.add(offered) {
             kept = kept.wrapping_add(1);
         }
     }

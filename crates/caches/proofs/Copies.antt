@@ -1,24 +1,27 @@
 -- Lists copied one by one. Assumes nothing.
-use Rattle.std.proofs.Common.{◌≡◌, ℕ, zero, suc, ◌+◌, ◌<◌, ◌≤◌, List, [], ◌∷◌, ◌++◌, length, get_or, take, set, Some, None, sym, ap, ◌∙◌, arith}
+use Rattle.std.proofs.Common.{◌≡◌, ℕ, ◌+◌, ◌<◌, ◌≤◌, List, [], ◌∷◌, ◌++◌, length, take, Some, None, Option, sym, ap, ◌∙◌, ⊎_elim, arith}
 use Rattle.std.specs.List.{slice_get}
-use Rattle.std.proofs.lemmas.List.{take_more, take_more_set, take_all}
+use Rattle.std.proofs.lemmas.List.{take_more, take_all}
+use Rattle.std.proofs.lemmas.Option.{slice_get_within, get_or_from_slice_get, slice_get_cases, none-some}
 
--- a place where nth finds something, and one where it does not
-pub nth_there : {X : Type 0} (xs : List X) (k : ℕ) (x : X) → slice_get xs k ≡ Some x → (k < length xs) × (get_or xs k x ≡ x)
-nth_there [] k x h = let z : ◌≡◌ {A = ℕ} 0 1 = cc in absurd (omega arith)
-nth_there (y ∷ xs) zero x h = (omega arith, cc)
-nth_there (y ∷ xs) (suc k) x h = let r = nth_there xs k x h in (omega arith, r.1)
+none_past : {X : Type 0} (xs : List X) (k : ℕ) → slice_get xs k ≡ None → length xs ≤ k
+none_past xs k h = ⊎_elim (λ w. absurd (none-some w.0 (sym h ∙ w.2))) (λ past. past.0) (slice_get_cases xs k).1
 
-pub nth_none : {X : Type 0} (xs : List X) (k : ℕ) → slice_get xs k ≡ None → length xs ≤ k
-nth_none [] k h = omega arith
-nth_none (y ∷ xs) zero h = let z : ◌≡◌ {A = ℕ} 0 1 = cc in absurd (omega arith)
-nth_none (y ∷ xs) (suc k) h = let r = nth_none xs k h in omega arith
+module _ {X : Type 0} (ys xs : List X) where
+  pub copied_none : ys ≡ [] → (length ys ≤ length xs) × (ys ≡ take (length ys) xs)
+  copied_none e = (simp e (omega arith), e ∙ sym (ap (λ l. take (length l) xs) e))
 
--- one more of xs is copied to ys
-pub copied_more : {X : Type 0} (ys xs : List X) (j : ℕ) (x : X) → j < length ys → slice_get xs j ≡ Some x → take j ys ≡ take j xs → (j + 1 ≤ length xs) × (take (j + 1) (set ys j x) ≡ take (j + 1) xs)
-copied_more ys xs j x h f e =
-    let r = nth_there xs j x f in
-    (omega arith, take_more_set ys j x h ∙ ap (λ l. l ++ x ∷ []) e ∙ ap (λ y. take j xs ++ y ∷ []) (sym r.1) ∙ sym (take_more xs j x r.0))
+  -- ys begins xs, and r is the next
+  module _ (n : ℕ) (r : Option X) (at : n ≡ length ys) (read : r ≡ slice_get xs n) where
+    next : slice_get xs (length ys) ≡ r
+    next = ap (slice_get xs) (sym at) ∙ sym read
 
-pub copied_all : {X : Type 0} (ys xs : List X) (j : ℕ) → length xs ≤ j → take j ys ≡ take j xs → take j ys ≡ xs
-copied_all ys xs j h e = e ∙ take_all j xs h
+    pub more_left : (x : X) → r ≡ Some x → length ys < length xs
+    more_left x is = slice_get_within xs (length ys) x (next ∙ is)
+
+    pub copied_more : (x : X) → r ≡ Some x → ys ≡ take (length ys) xs → ys ++ x ∷ [] ≡ take (length ys + 1) xs
+    copied_more x is e =
+        ap (λ l. l ++ x ∷ []) e ∙ ap (λ y. take (length ys) xs ++ y ∷ []) (sym (get_or_from_slice_get xs (length ys) x x (next ∙ is))) ∙ sym (take_more xs (length ys) x (more_left x is))
+
+    pub copied_all : r ≡ None → ys ≡ take (length ys) xs → ys ≡ xs
+    copied_all is e = e ∙ take_all (length ys) xs (none_past xs (length ys) (next ∙ is))

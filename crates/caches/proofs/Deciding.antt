@@ -18,8 +18,10 @@ use Rattle.caches.specs.contracts.questions.ValueKindPartialEq.TheImpl as kind
 use Rattle.caches.specs.contracts.questions.FoundPartialEq.TheImpl as found
 use Rattle.caches.specs.contracts.places.RootPartialEq.TheImpl as root
 use Rattle.caches.specs.contracts.places.PlacePartialEq.TheImpl as place
+use Rattle.caches.specs.contracts.paths.PathPartialEq.TheImpl as path
 use Rattle.caches.specs.contracts.questions.QuestionPartialEq.TheImpl as question
 use Rattle.caches.specs.Paths.{path_names, same_path, same_path_decides}
+use Rattle.caches.proofs.Derived.{path_eq_is}
 use Rattle.caches.specs.Sameness.{root_number, place_numbers, question_numbers}
 
 apart : {P : Type 0} (r : Bool) → r ≡ false → (P → ⊥) → Decides r P
@@ -34,9 +36,9 @@ root_decides (Param a) (Param b) r h = Decides-like r (ap suc) (λ e. omega arit
 pub place_decides : (p q : Place) (r : Bool) → (r ≡ (place.ghosts).eq p q) → Decides r (place_numbers p ≡ place_numbers q)
 place_decides p q r h =
     let roots = (root.ghosts).eq p.root q.root in
-    let names = same_path p.path q.path in
+    let names = (path.ghosts).eq p.path q.path in
     Decides-like r (λ (w : (root_number p.root ≡ root_number q.root) × (path_names p.path ≡ path_names q.path)) i. w.0 i ∷ w.1 i) (λ e. (cc, cc))
-    (Decides-at r (roots && names) h (Decides-and roots names (root_decides p.root q.root roots refl) (same_path_decides p.path q.path)))
+    (Decides-at r (roots && names) h (Decides-and roots names (root_decides p.root q.root roots refl) (Decides-at names (same_path p.path q.path) (path_eq_is p.path q.path) (same_path_decides p.path q.path))))
 
 -- the same first number, and the rest decides
 behind : (n : ℕ) (xs ys : List ℕ) (r : Bool) → Decides r (xs ≡ ys) → Decides r (n ∷ xs ≡ n ∷ ys)
@@ -44,37 +46,37 @@ behind n xs ys r d = (λ t. ap (λ l. n ∷ l) (d.0 t), λ e. d.1 (cc))
 
 pub question_decides : (a b : Question) (r : Bool) → (r ≡ (question.ghosts).eq a b) → Decides r (question_numbers a ≡ question_numbers b)
 question_decides (Same p) (Same q) r h = behind 0 (place_numbers p) (place_numbers q) r (place_decides p q r h)
-question_decides (Same p) (Kind q) r h = apart r h (λ e. let z : ◌≡◌ {A = ℕ} 0 1 = cc in omega arith)
-question_decides (Same p) (Presence q) r h = apart r h (λ e. let z : ◌≡◌ {A = ℕ} 0 2 = cc in omega arith)
-question_decides (Same p) (Function n) r h = apart r h (λ e. let z : ◌≡◌ {A = ℕ} 0 3 = cc in omega arith)
-question_decides (Kind p) (Same q) r h = apart r h (λ e. let z : ◌≡◌ {A = ℕ} 1 0 = cc in omega arith)
+question_decides (Same p) (Kind q) r h = apart r h (λ e. cc)
+question_decides (Same p) (Presence q) r h = apart r h (λ e. cc)
+question_decides (Same p) (Function n) r h = apart r h (λ e. cc)
+question_decides (Kind p) (Same q) r h = apart r h (λ e. cc)
 question_decides (Kind p) (Kind q) r h = behind 1 (place_numbers p) (place_numbers q) r (place_decides p q r h)
-question_decides (Kind p) (Presence q) r h = apart r h (λ e. let z : ◌≡◌ {A = ℕ} 1 2 = cc in omega arith)
-question_decides (Kind p) (Function n) r h = apart r h (λ e. let z : ◌≡◌ {A = ℕ} 1 3 = cc in omega arith)
-question_decides (Presence p) (Same q) r h = apart r h (λ e. let z : ◌≡◌ {A = ℕ} 2 0 = cc in omega arith)
-question_decides (Presence p) (Kind q) r h = apart r h (λ e. let z : ◌≡◌ {A = ℕ} 2 1 = cc in omega arith)
+question_decides (Kind p) (Presence q) r h = apart r h (λ e. cc)
+question_decides (Kind p) (Function n) r h = apart r h (λ e. cc)
+question_decides (Presence p) (Same q) r h = apart r h (λ e. cc)
+question_decides (Presence p) (Kind q) r h = apart r h (λ e. cc)
 question_decides (Presence p) (Presence q) r h = behind 2 (place_numbers p) (place_numbers q) r (place_decides p q r h)
-question_decides (Presence p) (Function n) r h = apart r h (λ e. let z : ◌≡◌ {A = ℕ} 2 3 = cc in omega arith)
-question_decides (Function m) (Same q) r h = apart r h (λ e. let z : ◌≡◌ {A = ℕ} 3 0 = cc in omega arith)
-question_decides (Function m) (Kind q) r h = apart r h (λ e. let z : ◌≡◌ {A = ℕ} 3 1 = cc in omega arith)
-question_decides (Function m) (Presence q) r h = apart r h (λ e. let z : ◌≡◌ {A = ℕ} 3 2 = cc in omega arith)
+question_decides (Presence p) (Function n) r h = apart r h (λ e. cc)
+question_decides (Function m) (Same q) r h = apart r h (λ e. cc)
+question_decides (Function m) (Kind q) r h = apart r h (λ e. cc)
+question_decides (Function m) (Presence q) r h = apart r h (λ e. cc)
 question_decides (Function m) (Function n) r h = behind 3 (m ∷ []) (n ∷ []) r (Decides-like r (ap (λ k. k ∷ [])) (λ e. cc) (Decides-at r (m == n) h (Decides-eqb m n)))
 
-option_decides : {X : Type 0} (E : X → X → Bool) → ((x y : X) → Decides (E x y) (x ≡ y)) → (o p : Option X) → Decides (option_eq E o p) (o ≡ p)
+pub option_decides : {X : Type 0} (E : X → X → Bool) → ((x y : X) → Decides (E x y) (x ≡ y)) → (o p : Option X) → Decides (option_eq E o p) (o ≡ p)
 option_decides E d None None = (λ _. refl, λ _. refl)
-option_decides E d None (Some y) = apart false refl (λ e. let z : ◌≡◌ {A = ℕ} 0 1 = cc in omega arith)
-option_decides E d (Some x) None = apart false refl (λ e. let z : ◌≡◌ {A = ℕ} 0 1 = cc in omega arith)
+option_decides E d None (Some y) = apart false refl (λ e. cc)
+option_decides E d (Some x) None = apart false refl (λ e. cc)
 option_decides E d (Some x) (Some y) = Decides-like (E x y) (ap Some) (λ e. cc) (d x y)
 
 kind_decides : (x y : ValueKind) → Decides ((kind.ghosts).eq x y) (x ≡ y)
 kind_decides kinds.Text kinds.Text = (λ _. refl, λ _. refl)
-kind_decides kinds.Text kinds.Truth = apart false refl (λ e. let z : ◌≡◌ {A = ℕ} 0 1 = cc in omega arith)
-kind_decides kinds.Text kinds.Binding = apart false refl (λ e. let z : ◌≡◌ {A = ℕ} 0 1 = cc in omega arith)
-kind_decides kinds.Truth kinds.Text = apart false refl (λ e. let z : ◌≡◌ {A = ℕ} 0 1 = cc in omega arith)
+kind_decides kinds.Text kinds.Truth = apart false refl (λ e. cc)
+kind_decides kinds.Text kinds.Binding = apart false refl (λ e. cc)
+kind_decides kinds.Truth kinds.Text = apart false refl (λ e. cc)
 kind_decides kinds.Truth kinds.Truth = (λ _. refl, λ _. refl)
-kind_decides kinds.Truth kinds.Binding = apart false refl (λ e. let z : ◌≡◌ {A = ℕ} 0 1 = cc in omega arith)
-kind_decides kinds.Binding kinds.Text = apart false refl (λ e. let z : ◌≡◌ {A = ℕ} 0 1 = cc in omega arith)
-kind_decides kinds.Binding kinds.Truth = apart false refl (λ e. let z : ◌≡◌ {A = ℕ} 0 1 = cc in omega arith)
+kind_decides kinds.Truth kinds.Binding = apart false refl (λ e. cc)
+kind_decides kinds.Binding kinds.Text = apart false refl (λ e. cc)
+kind_decides kinds.Binding kinds.Truth = apart false refl (λ e. cc)
 kind_decides kinds.Binding kinds.Binding = (λ _. refl, λ _. refl)
 
 -- one variant, and what it holds decides
@@ -83,18 +85,18 @@ inside f x y r back d = (λ t. ap f (d.0 t), λ e. d.1 (back e))
 
 pub found_decides : (a b : Found) (r : Bool) → (r ≡ (found.ghosts).eq a b) → Decides r (a ≡ b)
 found_decides (Value x) (Value y) r h = inside Value x y r (λ e. cc) (Decides-at r (option_eq nat_eq x y) h (option_decides nat_eq Decides-eqb x y))
-found_decides (Value x) (of.Kind y) r h = apart r h (λ e. let z : ◌≡◌ {A = ℕ} 0 1 = cc in omega arith)
-found_decides (Value x) (of.Presence y) r h = apart r h (λ e. let z : ◌≡◌ {A = ℕ} 0 1 = cc in omega arith)
-found_decides (Value x) (Text y) r h = apart r h (λ e. let z : ◌≡◌ {A = ℕ} 0 1 = cc in omega arith)
-found_decides (of.Kind x) (Value y) r h = apart r h (λ e. let z : ◌≡◌ {A = ℕ} 0 1 = cc in omega arith)
+found_decides (Value x) (of.Kind y) r h = apart r h (λ e. cc)
+found_decides (Value x) (of.Presence y) r h = apart r h (λ e. cc)
+found_decides (Value x) (Text y) r h = apart r h (λ e. cc)
+found_decides (of.Kind x) (Value y) r h = apart r h (λ e. cc)
 found_decides (of.Kind x) (of.Kind y) r h = inside of.Kind x y r (λ e. cc) (Decides-at r (option_eq (kind.ghosts).eq x y) h (option_decides (kind.ghosts).eq kind_decides x y))
-found_decides (of.Kind x) (of.Presence y) r h = apart r h (λ e. let z : ◌≡◌ {A = ℕ} 0 1 = cc in omega arith)
-found_decides (of.Kind x) (Text y) r h = apart r h (λ e. let z : ◌≡◌ {A = ℕ} 0 1 = cc in omega arith)
-found_decides (of.Presence x) (Value y) r h = apart r h (λ e. let z : ◌≡◌ {A = ℕ} 0 1 = cc in omega arith)
-found_decides (of.Presence x) (of.Kind y) r h = apart r h (λ e. let z : ◌≡◌ {A = ℕ} 0 1 = cc in omega arith)
+found_decides (of.Kind x) (of.Presence y) r h = apart r h (λ e. cc)
+found_decides (of.Kind x) (Text y) r h = apart r h (λ e. cc)
+found_decides (of.Presence x) (Value y) r h = apart r h (λ e. cc)
+found_decides (of.Presence x) (of.Kind y) r h = apart r h (λ e. cc)
 found_decides (of.Presence x) (of.Presence y) r h = inside of.Presence x y r (λ e. cc) (Decides-at r (beq x y) h (booleans_Decides x y))
-found_decides (of.Presence x) (Text y) r h = apart r h (λ e. let z : ◌≡◌ {A = ℕ} 0 1 = cc in omega arith)
-found_decides (Text x) (Value y) r h = apart r h (λ e. let z : ◌≡◌ {A = ℕ} 0 1 = cc in omega arith)
-found_decides (Text x) (of.Kind y) r h = apart r h (λ e. let z : ◌≡◌ {A = ℕ} 0 1 = cc in omega arith)
-found_decides (Text x) (of.Presence y) r h = apart r h (λ e. let z : ◌≡◌ {A = ℕ} 0 1 = cc in omega arith)
+found_decides (of.Presence x) (Text y) r h = apart r h (λ e. cc)
+found_decides (Text x) (Value y) r h = apart r h (λ e. cc)
+found_decides (Text x) (of.Kind y) r h = apart r h (λ e. cc)
+found_decides (Text x) (of.Presence y) r h = apart r h (λ e. cc)
 found_decides (Text x) (Text y) r h = inside Text x y r (λ e. cc) (Decides-at r (option_eq nat_eq x y) h (option_decides nat_eq Decides-eqb x y))

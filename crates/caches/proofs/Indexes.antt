@@ -1,19 +1,22 @@
 -- Laws of the index of a keeper. Assumes nothing.
 use Rattle.std.proofs.Common.{◌≡◌, ℕ, zero, suc, ◌+◌, ◌-◌, ◌<◌, ◌≤◌, Bool, true, false, cond, List, [], ◌∷◌, ◌++◌, map, length, get_or, take, drop, is_some, Some, None, Option, Ordering, Less, Equal, Greater, sym, refl, ap, ◌∙◌, subst, ⊎_elim, append-nil, arith}
 use Rattle.std.specs.List.{insert}
-use Rattle.std.specs.Cmp.{ranks, nat_cmp_is}
+use Rattle.std.specs.Cmp.{IsTotalOrder, ranks, nat_cmp_is}
 use Rattle.std.specs.Ordering.{is_lt, is_eq, ordering_then, MatchOrdering, nat_cmp}
 use Rattle.std.proofs.str.Laws.{order}
+use Rattle.std.proofs.lemmas.List.Elements.{filter-append}
 use Rattle.std.proofs.lemmas.List.{get_or_default, map_push, get_or-drop, length-drop, take-append-drop}
 use Rattle.ordered.specs.Climbing.{Climbs, Stands, MoreFrom, Inserts}
-use Rattle.ordered.proofs.Climbs.{PutIn}
+use Rattle.std.proofs.Math.Seq.{drop-nil, take-nil}
+use Rattle.ordered.proofs.Climbs.{PutIn, less}
 use Rattle.ordered.proofs.Shifts.{put_in}
 use Rattle.caches.specs.declared.keys.Key.{Key}
 use Rattle.caches.specs.declared.keys.Key.TheVariants.{Tool}
 use Rattle.caches.specs.declared.keeper_slots.Indexed.{Indexed}
-use Rattle.caches.specs.declared.keeper_slots.Stretch.{Stretch}
 use Rattle.caches.specs.Keys.{key_order, same_key}
-use Rattle.caches.specs.Lines.{line_order, line_order_total, line_at, Sorted, Below, lines_with, numbers_with, Spans, Enlists}
+use Rattle.caches.specs.contracts.keeper_slots.IndexedOrd.TheImpl.{ghosts}
+use Rattle.caches.specs.Lines.{line_order, line_order_total, line_at, Sorted, Below, lines_with, numbers_with, Enlists}
+use Rattle.caches.proofs.Derived.{line_cmp_is}
 use Rattle.caches.proofs.KeyOrders.{same_key_same}
 
 abbrev cmp : Indexed → Indexed → Ordering
@@ -23,11 +26,6 @@ abbrev pub line : Key → ℕ → Indexed
 line key n = record { key = key; entry = n }
 
 -- ---- order
-
-less : (r : Ordering) → is_lt r ≡ true → r ≡ Less
-less Less h = refl
-less Equal h = let z : ◌≡◌ {A = ℕ} 0 1 = cc in absurd (omega arith)
-less Greater h = let z : ◌≡◌ {A = ℕ} 0 1 = cc in absurd (omega arith)
 
 chain : (xs : List Indexed) → Sorted xs → (i n j : ℕ) → j ≡ i + n + 1 → j < length xs → cmp (line_at xs i) (line_at xs j) ≡ Less
 chain xs up i zero j e lt =
@@ -46,6 +44,15 @@ climbing xs up i j d lt end =
 
 pub sorted_from : (xs : List Indexed) → Climbs cmp xs → Sorted xs
 sorted_from xs up i lt = ap is_lt (up i (i + 1) (record { key = Tool 0 0 0; entry = 0 }) (omega arith) lt)
+
+-- what is said of `cmp` of lines, said of this order
+pub placed : (xs ys : List Indexed) (x : Indexed) (i : ℕ) → Sorted xs → ys ≡ xs → (IsTotalOrder ghosts.cmp → Climbs ghosts.cmp ys → Stands ghosts.cmp ys x i) → Stands cmp xs x i
+placed xs ys x i up same stands =
+    subst (λ l. Stands cmp l x i) same (subst (λ (R : Indexed → Indexed → Ordering). IsTotalOrder R → Climbs R ys → Stands R ys x i) (sym line_cmp_is) stands line_order_total (subst (Climbs cmp) (sym same) (climbing xs up)))
+
+pub inserted : (xs ys : List Indexed) (x : Indexed) (r : Option ℕ) (room : Type 0) → Sorted xs → (IsTotalOrder ghosts.cmp → Climbs ghosts.cmp xs → Inserts ghosts.cmp room xs x r ys) → Inserts cmp room xs x r ys
+inserted xs ys x r room up inserts =
+    subst (λ (R : Indexed → Indexed → Ordering). IsTotalOrder R → Climbs R xs → Inserts R room xs x r ys) (sym line_cmp_is) inserts line_order_total (climbing xs up)
 
 -- ---- which lines have a key
 
@@ -66,7 +73,7 @@ between_has x key m n h = go (key_order x.key key) n h
     go : (r : Ordering) → (ordering_then r (nat_cmp x.entry 0) ≡ Less → ⊥) → ordering_then r (nat_cmp x.entry m) ≡ Less → is_eq r ≡ true
     go Less f g = absurd (f refl)
     go Equal f g = refl
-    go Greater f g = let z : ◌≡◌ {A = ℕ} 0 1 = cc in absurd (omega arith)
+    go Greater f g = cc
 
 after_lacks : (x : Indexed) (key : Key) (m : ℕ) → x.entry < m → (cmp x (line key m) ≡ Less → ⊥) → same_key x.key key ≡ false
 after_lacks x key m lt n = go (key_order x.key key) n
@@ -80,9 +87,9 @@ never_equal : (x : Indexed) (key : Key) (m : ℕ) → x.entry < m → cmp x (lin
 never_equal x key m lt h = go (key_order x.key key) h
   where
     go : (r : Ordering) → ordering_then r (nat_cmp x.entry m) ≡ Equal → ⊥
-    go Less f = let z : ◌≡◌ {A = ℕ} 0 1 = cc in omega arith
-    go Equal f = let g = nat_cmp_is x.entry m Less lt in let z : ◌≡◌ {A = ℕ} 0 1 = cc in omega arith
-    go Greater f = let z : ◌≡◌ {A = ℕ} 0 1 = cc in omega arith
+    go Less f = cc
+    go Equal f = let g = nat_cmp_is x.entry m Less lt in cc
+    go Greater f = cc
 
 -- ---- lines of a key
 
@@ -99,16 +106,8 @@ module _ (key : Key) where
   takes : (x : Indexed) (xs : List Indexed) → same_key x.key key ≡ true → lines_with key (x ∷ xs) ≡ x ∷ lines_with key xs
   takes x xs e = ap (λ b. cond b (x ∷ lines_with key xs) (lines_with key xs)) e
 
-  drop_nil : (s : ℕ) → drop {A = Indexed} s [] ≡ []
-  drop_nil zero = refl
-  drop_nil (suc s) = refl
-
-  take_nil : (s : ℕ) → take {A = Indexed} s [] ≡ []
-  take_nil zero = refl
-  take_nil (suc s) = refl
-
   pub filter_stretch : (xs : List Indexed) (s e : ℕ) → s ≤ e → ((j : ℕ) → j < s → j < length xs → Lacks xs j) → ((j : ℕ) → s ≤ j → j < e → j < length xs → Has xs j) → ((j : ℕ) → e ≤ j → j < length xs → Lacks xs j) → lines_with key xs ≡ take (e - s) (drop s xs)
-  filter_stretch [] s e h a b c = sym (ap (take (e - s)) (drop_nil s) ∙ take_nil (e - s))
+  filter_stretch [] s e h a b c = sym (ap (take (e - s)) (drop-nil s) ∙ take-nil (e - s))
   filter_stretch (x ∷ xs) zero zero h a b c =
       passes x xs (c 0 (omega arith) (omega arith) x) ∙ filter_stretch xs zero zero h (λ j g. absurd (omega arith)) (λ j g l. absurd (omega arith)) (λ j g l d. c (suc j) (omega arith) (omega arith) d)
   filter_stretch (x ∷ xs) zero (suc e) h a b c =
@@ -123,37 +122,28 @@ module _ (key : Key) where
       ∙ filter_stretch xs s e (omega arith) (λ j g l d. a (suc j) (omega arith) (omega arith) d) (λ j g l m d. b (suc j) (omega arith) (omega arith) (omega arith) d) (λ j g l d. c (suc j) (omega arith) (omega arith) d)
       ∙ ap (λ m. take m (drop s xs)) n
 
-  lines_append : (a b : List Indexed) → lines_with key (a ++ b) ≡ lines_with key a ++ lines_with key b
-  lines_append [] b = refl
-  lines_append (x ∷ a) b =
-      let rest = lines_append a b in
-      elim (same_key x.key key) as (λ t. cond t (x ∷ lines_with key (a ++ b)) (lines_with key (a ++ b)) ≡ cond t (x ∷ lines_with key a) (lines_with key a) ++ lines_with key b) [ true ↦ ap (λ l. x ∷ l) rest | false ↦ rest ]
+-- the lines of a key stand between the places of two lines
+module _ (key : Key) (xs : List Indexed) (n m start end : ℕ) (few : n ≤ m) (below : Below n xs) (first : Stands cmp xs (line key 0) start) (last : Stands cmp xs (line key m) end) where
+  -- what is less than the first line of a key is less than its later ones
+  earlier : (x : Indexed) → cmp x (line key 0) ≡ Less → cmp x (line key m) ≡ Less
+  earlier x h = go (key_order x.key key) h
+    where
+      go : (r : Ordering) → ordering_then r (nat_cmp x.entry 0) ≡ Less → ordering_then r (nat_cmp x.entry m) ≡ Less
+      go Less g = refl
+      go Equal g = absurd (below_zero x.entry g)
+      go Greater g = cc
 
--- the stretch between the places of two lines
-pub spans : (key : Key) (xs : List Indexed) (n m : ℕ) (s : Stretch) → n ≤ m → Below n xs → s.start ≤ length xs → s.end ≤ length xs → Stands cmp xs (line key 0) s.start → Stands cmp xs (line key m) s.end → Spans key xs s
-spans key xs n m s h below in_s in_e a b = record {
-  climbs = up;
-  within = in_e;
-  lines = filter_stretch key xs s.start s.end up
-      (λ j lt l d. before_lacks (get_or xs j d) key (a.0 j d lt))
-      (λ j ge lt l d. between_has (get_or xs j d) key m (a.1 j d ge l) (b.0 j d lt))
-      (λ j ge l d. after_lacks (get_or xs j d) key m (let g = below j d l in omega arith) (b.1 j d ge l));
-}
-  where
-    -- what is less than the first line of a key is less than its later ones
-    earlier : (x : Indexed) → cmp x (line key 0) ≡ Less → cmp x (line key m) ≡ Less
-    earlier x h = go (key_order x.key key) h
-      where
-        go : (r : Ordering) → ordering_then r (nat_cmp x.entry 0) ≡ Less → ordering_then r (nat_cmp x.entry m) ≡ Less
-        go Less g = refl
-        go Equal g = absurd (below_zero x.entry g)
-        go Greater g = let z : ◌≡◌ {A = ℕ} 0 1 = cc in absurd (omega arith)
+  pub start_before_end : start ≤ length xs → start ≤ end
+  start_before_end within = ⊎_elim
+      (λ lt. let d = line key 0 in absurd (last.1 end d (omega arith) (omega arith) (earlier (get_or xs end d) (first.0 end d lt))))
+      (λ ge. ge)
+      (order end start)
 
-    up : s.start ≤ s.end
-    up = ⊎_elim
-        (λ lt. let d = line key 0 in absurd (b.1 s.end d (omega arith) (omega arith) (earlier (get_or xs s.end d) (a.0 s.end d lt))))
-        (λ ge. ge)
-        (order s.end s.start)
+  pub lines_between : start ≤ length xs → lines_with key xs ≡ take (end - start) (drop start xs)
+  lines_between within = filter_stretch key xs start end (start_before_end within)
+      (λ j lt l d. before_lacks (get_or xs j d) key (first.0 j d lt))
+      (λ j ge lt l d. between_has (get_or xs j d) key m (first.1 j d ge l) (last.0 j d lt))
+      (λ j ge l d. after_lacks (get_or xs j d) key m (let g = below j d l in omega arith) (last.1 j d ge l))
 
 -- ---- one line more
 
@@ -169,13 +159,13 @@ below_put key n xs ys i below p j d lt =
 
 numbers_put : (key k : Key) (n : ℕ) (xs : List Indexed) (i : ℕ) → Below n xs → MoreFrom cmp xs (line key n) i → numbers_with k (insert xs i (line key n)) ≡ numbers_with k xs ++ cond (same_key key k) (n ∷ []) []
 numbers_put key k n xs i below more =
-    ap (map entry_of) (lines_append k (take i xs) (line key n ∷ drop i xs)) ∙ go (same_key key k) refl
+    ap (map entry_of) (filter-append (λ x. same_key x.key k) (take i xs) (line key n ∷ drop i xs)) ∙ go (same_key key k) refl
   where
     entry_of : Indexed → ℕ
     entry_of x = x.entry
 
     whole : lines_with k xs ≡ lines_with k (take i xs) ++ lines_with k (drop i xs)
-    whole = ap (lines_with k) (sym (take-append-drop i xs)) ∙ lines_append k (take i xs) (drop i xs)
+    whole = ap (lines_with k) (sym (take-append-drop i xs)) ∙ filter-append (λ x. same_key x.key k) (take i xs) (drop i xs)
 
     go : (b : Bool) → same_key key k ≡ b → map entry_of (lines_with k (take i xs) ++ cond b (line key n ∷ lines_with k (drop i xs)) (lines_with k (drop i xs))) ≡ map entry_of (lines_with k xs) ++ cond b (n ∷ []) []
     go true e =
@@ -187,7 +177,7 @@ numbers_put key k n xs i below more =
         later j g l d =
             let in-xs : i + j < length xs = omega (arith, length-drop i xs) in
             let x = get_or xs (i + j) d in
-            let past : cmp x (line key n) ≡ Less → ⊥ = λ h. let m = more (i + j) d (omega arith) in-xs in let z : ◌≡◌ {A = ℕ} 0 1 = cc in omega arith in
+            let past : cmp x (line key n) ≡ Less → ⊥ = λ h. let m = more (i + j) d (omega arith) in-xs in cc in
             ap (λ (y : Indexed). same_key y.key k) (get_or-drop i xs j d) ∙ ap (same_key x.key) (sym (same_key_same key k e)) ∙ after_lacks x key n (below (i + j) d in-xs) past
     go false e = ap (map entry_of) (sym whole) ∙ sym (append-nil (map entry_of (lines_with k xs)))
 

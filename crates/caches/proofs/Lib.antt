@@ -1,7 +1,8 @@
+pub mod Derived
 pub mod KeyOrders
 pub mod Lists
 pub mod Rows
-pub mod Turnings
+pub mod Rings
 pub mod Copies
 pub mod Takings
 pub mod Indexes

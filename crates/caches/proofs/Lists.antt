@@ -1,7 +1,9 @@
 -- Laws of entries and of what calls may answer. Assumes nothing.
-use Rattle.std.specs.Prelude.{◌≡◌, ℕ, zero, suc, ◌-◌, ◌<◌, ◌≤◌, Bool, true, false, cond, ◌||◌, List, [], ◌∷◌, ◌++◌, length, Some, None, Option, refl}
+use Rattle.std.specs.Prelude.{◌≡◌, ℕ, zero, suc, ◌-◌, ◌<◌, ◌≤◌, Bool, true, false, not, cond, ◌||◌, List, [], ◌∷◌, ◌++◌, length, Some, None, Option, refl}
 use Rattle.std.proofs.Common.{sym, ap, subst, ◌∙◌, inl, inr, ⊎_elim, arith}
-use Rattle.std.specs.List.{slice_get}
+use Rattle.std.specs.List.{filter, slice_get}
+use Rattle.std.proofs.lemmas.List.Elements.{filter-append}
+use Rattle.std.proofs.lemmas.List.Filters.{length-filter_both}
 use Rattle.std.specs.Option.{option_map}
 use Rattle.caches.specs.declared.keys.Key.{Key}
 use Rattle.caches.specs.declared.questions.Answered.{Answered}
@@ -11,17 +13,11 @@ use Rattle.caches.specs.Exact.{Looks}
 use Rattle.caches.specs.Laws.{member_split}
 use Rattle.caches.proofs.KeyOrders.{same_key_same}
 
-pub with_key_append : (k : Key) (a b : List Entry) → with_key k (a ++ b) ≡ with_key k a ++ with_key k b
-with_key_append k [] b = refl
-with_key_append k (e ∷ a) b =
-    let rest = with_key_append k a b in
-    elim (same_key e.key k) as (λ t. cond t (e ∷ with_key k (a ++ b)) (with_key k (a ++ b)) ≡ cond t (e ∷ with_key k a) (with_key k a) ++ with_key k b) [ true ↦ ap (λ l. e ∷ l) rest | false ↦ rest ]
+pub filter_length : {X : Type 0} (p : X → Bool) (xs : List X) → length (filter p xs) ≤ length xs
+filter_length p xs = omega (arith, length-filter_both p (λ x. not (p x)) (λ _. refl) xs)
 
-pub with_key_length : (k : Key) (a : List Entry) → length (with_key k a) ≤ length a
-with_key_length k [] = omega arith
-with_key_length k (e ∷ a) =
-    let rest = with_key_length k a in
-    elim (same_key e.key k) as (λ t. length (cond t (e ∷ with_key k a) (with_key k a)) ≤ suc (length a)) [ true ↦ omega arith | false ↦ omega arith ]
+pub with_key_append : (k : Key) (a b : List Entry) → with_key k (a ++ b) ≡ with_key k a ++ with_key k b
+with_key_append k a b = filter-append (λ e. same_key e.key k) a b
 
 pub nth_left : {X : Type 0} (a b : List X) (k : ℕ) → k < length a → slice_get (a ++ b) k ≡ slice_get a k
 nth_left [] b k h = absurd (omega arith)
@@ -56,7 +52,7 @@ member_with_key key (x ∷ es) e h =
     elim (same_key x.key key) as P [ true ↦ ⊎_elim (λ p. inl p) (λ q. inr (rest q)) | false ↦ λ q. inr (rest q) ] h
 
 member_at : (es : List Entry) (k : ℕ) (e : Entry) → slice_get es k ≡ Some e → Member e es
-member_at [] k e h = let z : ◌≡◌ {A = ℕ} 0 1 = cc in absurd (omega arith)
+member_at [] k e h = cc
 member_at (x ∷ es) zero e h = inl (cc)
 member_at (x ∷ es) (suc k) e h = inr (member_at es k e h)
 
@@ -127,7 +123,7 @@ took_far key k n p qs r a b a' b' e h told t ad =
 pub not_added : (e : Entry) (old new : List Entry) → new ≡ old → Added e old false new
 not_added e old new p = record {
   only = λ x m. inr (subst (Member x) p m);
-  held = λ t. let z : ◌≡◌ {A = ℕ} 0 1 = cc in absurd (omega arith);
+  held = λ t. cc;
   long = λ _. (refl, p);
 }
 
@@ -147,8 +143,8 @@ took_looked key k old new r h = go (slice_get (with_key key old) k) refl r h.0
 
     go : (o : Option Entry) → slice_get (with_key key old) k ≡ o → (r : Option ℕ) → r ≡ option_map (λ (e : Entry). e.product) (slice_get (with_key key old) k) → Took key k old r new
     go None e None f = (e, same)
-    go None e (Some p) f = let z : ◌≡◌ {A = ℕ} 0 1 = cc in absurd (omega arith)
-    go (Some it) e None f = let z : ◌≡◌ {A = ℕ} 0 1 = cc in absurd (omega arith)
+    go None e (Some p) f = cc
+    go (Some it) e None f = cc
     go (Some it) e (Some p) f = ((it, e, cc, subst (Member it) (sym h.1) (member_nth key old k it e)), same)
 
 -- where all entries are short, so are the answers of the k-th
@@ -159,7 +155,11 @@ answers_short key k es short = go (slice_get (with_key key es) k) refl
     go None h = omega arith
     go (Some e) h = short e (member_nth key es k e h)
 
--- what is taken is the product of the k-th
-pub took_product : (key : Key) (k : ℕ) (old new : List Entry) (r : Option ℕ) → Took key k old r new → (r ≡ product_at key k old) × Within new old
-took_product key k old new None t = (sym (ap (option_map (λ (e : Entry). e.product)) t.0), t.1)
-took_product key k old new (Some p) t = (sym (ap (option_map (λ (e : Entry). e.product)) t.0.1 ∙ ap Some t.0.2), t.1)
+-- what is taken is the product of the k-th, and nothing is held that was not before
+pub took_product : (key : Key) (k : ℕ) (old new : List Entry) (r : Option ℕ) → Took key k old r new → r ≡ product_at key k old
+took_product key k old new None t = sym (ap (option_map (λ (e : Entry). e.product)) t.0)
+took_product key k old new (Some p) t = sym (ap (option_map (λ (e : Entry). e.product)) t.0.1 ∙ ap Some t.0.2)
+
+pub took_within : (key : Key) (k : ℕ) (old new : List Entry) (r : Option ℕ) → Took key k old r new → (e : Entry) → Member e new → Member e old
+took_within key k old new None t = t.1
+took_within key k old new (Some p) t = t.1

@@ -1,25 +1,21 @@
 -- Laws of the slots of a keeper. Assumes nothing.
-use Rattle.std.specs.Prelude.{◌≡◌, ℕ, zero, suc, ◌+◌, ◌-◌, ◌<◌, ◌≤◌, Bool, true, false, cond, ◌&&◌, List, [], ◌∷◌, ◌++◌, map, length, get_or, take, drop, Some, None, Option, nat_le, nat_lt, slice_index_or, refl}
+use Rattle.std.specs.Prelude.{◌≡◌, ℕ, zero, suc, ◌+◌, ◌<◌, ◌≤◌, Bool, true, false, cond, ◌&&◌, List, [], ◌∷◌, ◌++◌, length, get_or, take, drop, Some, None, Option, nat_le, nat_lt, slice_index_or, refl}
 use Rattle.std.proofs.Common.{sym, ap, subst, ◌∙◌, arith, length-take, length-drop, ltb-true, leb-true}
+use Rattle.std.specs.Borrow.{Bor}
 use Rattle.std.specs.List.{slice_get}
+use Rattle.std.specs.Slice.{IsItemAt}
 use Rattle.std.specs.Option.{option_map}
-use Rattle.std.proofs.lemmas.List.{get_or-take, get_or-drop, take-append-le, drop-append-le, take_all, drop_at, map_push, drop-drop, length-map}
-use Rattle.std.proofs.lemmas.Option.{slice_get-get_or, slice_get_past}
+use Rattle.std.proofs.lemmas.List.{get_or-drop, take-append-le, drop-append-le, take_all, drop_at, map_push, drop-drop, length-map}
+use Rattle.std.proofs.lemmas.Option.{slice_get-map, slice_get_past, slice_get_read, none-some, same_Some}
 use Rattle.caches.specs.declared.keys.Key.{Key}
 use Rattle.caches.specs.declared.questions.Answered.{Answered}
 use Rattle.caches.specs.declared.keeper_slots.Slot.{Slot}
 use Rattle.caches.specs.declared.keeper_slots.Indexed.{Indexed}
-use Rattle.caches.specs.declared.keeper_slots.Stretch.{Stretch}
 use Rattle.caches.specs.Keys.{same_key}
 use Rattle.caches.specs.Entries.{Entry, entry, with_key}
 use Rattle.caches.specs.Exact.{all_answers, has_room}
 use Rattle.caches.specs.Slots.{slot_entry, slot_entries, Fit, all_lens, places}
-use Rattle.caches.specs.Lines.{lines_with, numbers_with, Spans}
-
-nth_map : {X Y : Type 0} (f : X → Y) (xs : List X) (k : ℕ) → slice_get (map f xs) k ≡ option_map f (slice_get xs k)
-nth_map f [] k = refl
-nth_map f (x ∷ xs) zero = refl
-nth_map f (x ∷ xs) (suc k) = nth_map f xs k
+use Rattle.caches.specs.Lines.{lines_with, numbers_with}
 
 -- ---- entries by their places
 
@@ -47,34 +43,36 @@ module _ (key : Key) (row : List Answered) (all : List Slot) (d : Slot) where
       go true (suc k) at rest = rest k
       go false k at rest = rest k
 
-  pub kth_entry : (index : List Indexed) (k : ℕ) → numbers_with key index ≡ places key 0 all → slice_get (with_key key (slot_entries all row)) k ≡ from_place (option_map (λ (x : Indexed). x.entry) (slice_get (lines_with key index) k))
-  kth_entry index k linked = places_nth 0 all refl k ∙ ap (λ l. from_place (slice_get l k)) (sym linked) ∙ ap from_place (nth_map (λ (x : Indexed). x.entry) (lines_with key index) k)
+  kth_entry : (index : List Indexed) (k : ℕ) → numbers_with key index ≡ places key 0 all → slice_get (with_key key (slot_entries all row)) k ≡ from_place (option_map (λ (x : Indexed). x.entry) (slice_get (lines_with key index) k))
+  kth_entry index k linked = places_nth 0 all refl k ∙ ap (λ l. from_place (slice_get l k)) (sym linked) ∙ ap from_place (slice_get-map (λ (x : Indexed). x.entry) (lines_with key index) k)
 
--- the k-th line of a stretch, and past its end
-pub stretch_nth : (key : Key) (index : List Indexed) (s : Stretch) (k : ℕ) (x : Indexed) → Spans key index s → k < s.end - s.start → x ≡ slice_index_or index (s.start + k) x → slice_get (lines_with key index) k ≡ Some x
-stretch_nth key index s k x p h e =
-    let part = take (s.end - s.start) (drop s.start index) in
-    let long : k < length part = simp (length-take, length-drop) (omega (arith, p.within)) in
-    ap (λ l. slice_get l k) p.lines ∙ slice_get-get_or part k x long ∙ ap Some (get_or-take (s.end - s.start) (drop s.start index) k x h ∙ get_or-drop s.start index k x ∙ sym e)
+  -- where a line stands, so does its entry
+  pub kth_is : (index : List Indexed) (k : ℕ) (o : Option Indexed) → numbers_with key index ≡ places key 0 all → slice_get (lines_with key index) k ≡ o → slice_get (with_key key (slot_entries all row)) k ≡ from_place (option_map (λ (x : Indexed). x.entry) o)
+  kth_is index k o linked here = kth_entry index k linked ∙ ap (λ l. from_place (option_map (λ (x : Indexed). x.entry) l)) here
 
-pub stretch_past : (key : Key) (index : List Indexed) (s : Stretch) (k : ℕ) → Spans key index s → s.end - s.start ≤ k → slice_get (lines_with key index) k ≡ None
-stretch_past key index s k p h = ap (λ l. slice_get l k) p.lines ∙ slice_get_past (take (s.end - s.start) (drop s.start index)) k (simp length-take (omega arith))
+places_below : (key : Key) (n : ℕ) (ss : List Slot) (k i : ℕ) → slice_get (places key n ss) k ≡ Some i → i < n + length ss
+places_below key n [] k i h = absurd (none-some i h)
+places_below key n (s ∷ ss) k i h = go (same_key s.key key) k h (places_below key (suc n) ss)
+  where
+    go : (b : Bool) (k : ℕ) → slice_get (cond b (n ∷ places key (suc n) ss) (places key (suc n) ss)) k ≡ Some i → ((k i : ℕ) → slice_get (places key (suc n) ss) k ≡ Some i → i < suc n + length ss) → i < n + suc (length ss)
+    go true zero g rest = let e = same_Some n i g in omega arith
+    go true (suc k) g rest = let r = rest k i g in omega arith
+    go false k g rest = let r = rest k i g in omega arith
 
-pub stretch_length : (key : Key) (index : List Indexed) (s : Stretch) (slots : List Slot) (row : List Answered) → Spans key index s → numbers_with key index ≡ places key 0 slots → s.end - s.start ≡ length (with_key key (slot_entries slots row))
-stretch_length key index s slots row p linked =
-    let part = take (s.end - s.start) (drop s.start index) in
-    let long : length part ≡ s.end - s.start = simp (length-take, length-drop) (omega (arith, p.within)) in
-    sym (places_length key row 0 slots ∙ ap length (sym linked) ∙ length-map (lines_with key index) (λ (x : Indexed). x.entry) ∙ ap length p.lines ∙ long)
+-- each line's entry has a slot
+pub line_below : (key : Key) (index : List Indexed) (slots : List Slot) (k : ℕ) (x : Indexed) → numbers_with key index ≡ places key 0 slots → slice_get (lines_with key index) k ≡ Some x → x.entry < length slots
+line_below key index slots k x linked here =
+    let none : 0 + length slots ≡ length slots = omega arith in
+    subst (λ n. x.entry < n) none (places_below key 0 slots k x.entry (ap (λ l. slice_get l k) (sym linked) ∙ slice_get-map (λ (y : Indexed). y.entry) (lines_with key index) k ∙ ap (option_map (λ (y : Indexed). y.entry)) here))
 
--- ---- answers of a slot
+-- what `get` finds
+pub found : {X : Type 0} (xs : List X) (i : ℕ) (r : Option (Bor X)) → IsItemAt xs i r → option_map (λ x. x.now) r ≡ slice_get xs i
+found xs i None h = sym (slice_get_past xs i (omega arith))
+found xs i (Some x) h = sym (slice_get_read xs (length xs) i x.now refl (omega arith) (cc))
 
-pub within_part : (row : List Answered) (from len j : ℕ) (q : Answered) → j < len → from + len ≤ length row → q ≡ slice_index_or row (from + j) q → slice_get (take len (drop from row)) j ≡ Some q
-within_part row from len j q h w e =
-    let long : j < length (take len (drop from row)) = simp (length-take, length-drop) (omega arith) in
-    slice_get-get_or (take len (drop from row)) j q long ∙ ap Some (get_or-take len (drop from row) j q h ∙ get_or-drop from row j q ∙ sym e)
-
-pub past_part : (row : List Answered) (from len j : ℕ) → len ≤ j → slice_get (take len (drop from row)) j ≡ None
-past_part row from len j h = slice_get_past (take len (drop from row)) j (simp length-take (omega arith))
+-- as many entries as lines
+pub lines_length : (key : Key) (index : List Indexed) (slots : List Slot) (row : List Answered) → numbers_with key index ≡ places key 0 slots → length (lines_with key index) ≡ length (with_key key (slot_entries slots row))
+lines_length key index slots row linked = sym (places_length key row 0 slots ∙ ap length (sym linked) ∙ length-map (lines_with key index) (λ (x : Indexed). x.entry))
 
 -- all answers of the entries are those of the slots
 pub answers_lens : (slots : List Slot) (row : List Answered) → Fit slots (length row) → all_answers (slot_entries slots row) ≡ all_lens slots
@@ -141,7 +139,7 @@ room_is e slots row n m a b f =
 
 and_true : (a b : Bool) → true ≡ (a && b) → (a ≡ true) × (b ≡ true)
 and_true true b h = (refl, sym h)
-and_true false b h = let z : ◌≡◌ {A = ℕ} 0 1 = cc in absurd (omega arith)
+and_true false b h = cc
 
 pub room_facts : (n l m : ℕ) → true ≡ (nat_lt n 128 && (nat_le l 64 && nat_le m 1024)) → (n < 128) × (l ≤ 64) × (m ≤ 1024)
 room_facts n l m h =

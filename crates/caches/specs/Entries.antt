@@ -1,9 +1,10 @@
 -- What a cache holds, and what its calls may answer. Assumes nothing.
-use Rattle.std.specs.Prelude.{◌≡◌, ℕ, ◌<◌, ◌≤◌, Bool, true, false, cond, ◌⊎◌, List, [], ◌∷◌, length, Some, None, Option}
-use Rattle.std.specs.List.{slice_get}
+use Rattle.std.specs.Prelude.{◌≡◌, ℕ, ◌<◌, ◌≤◌, Bool, true, false, ◌⊎◌, List, [], ◌∷◌, length, Some, None, Option}
+use Rattle.std.specs.List.{filter, slice_get}
 use Rattle.std.specs.Option.{option_map}
 use Rattle.caches.specs.declared.keys.Key.{Key}
 use Rattle.caches.specs.declared.questions.Answered.{Answered}
+use Rattle.caches.specs.declared.offers.Offer.{Offer}
 use Rattle.caches.specs.Keys.{same_key}
 
 -- an entry: what was made under a key, with every question asked on the way and what was found
@@ -15,10 +16,13 @@ pub record Entry : Type 0 where
 abbrev pub entry : Key → ℕ → List Answered → Entry
 entry k p qs = record { key = k; product = p; answers = qs }
 
+-- the entry that is offered
+abbrev pub offered : Offer → Entry
+offered o = entry o.key o.product o.answers.now
+
 -- the entries that have the key, in their order
 abbrev pub with_key : Key → List Entry → List Entry
-with_key k [] = []
-with_key k (e ∷ es) = cond (same_key e.key k) (e ∷ with_key k es) (with_key k es)
+with_key k = filter (λ e. same_key e.key k)
 
 abbrev pub answers_of : Option Entry → List Answered
 answers_of None = []

@@ -19,7 +19,7 @@ slots_short (s ∷ ss) row e (inl p) = subst (λ (x : Entry). length x.answers �
 slots_short (s ∷ ss) row e (inr m) = slots_short ss row e m
 
 pub slot_short : (s : RingSlot) → length (ring_entry s).answers ≤ 64
-slot_short s = simp length-take (omega (arith, s.few))
+slot_short s = s.few
 
 pub ring_short : (slots : List RingSlot) → AllShort (ring_entries slots)
 ring_short [] e m = absurd m

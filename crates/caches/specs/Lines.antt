@@ -1,18 +1,17 @@
 -- The index of a keeper: a line for each entry, in the order of keys and, of one key, of age. Assumes nothing.
-use Rattle.std.specs.Prelude.{◌≡◌, ℕ, ◌+◌, ◌-◌, ◌<◌, ◌≤◌, true, cond, List, [], ◌∷◌, ◌++◌, map, length, take, drop, slice_index_or}
+use Rattle.std.specs.Prelude.{◌≡◌, ℕ, ◌+◌, ◌<◌, true, cond, List, [], ◌∷◌, ◌++◌, map, length, slice_index_or}
 use Rattle.std.specs.declared.cmp.Ordering.{Ordering}
 use Rattle.std.specs.Cmp.{IsTotalOrder, nat_cmp_total, on_total, then_total}
-use Rattle.std.specs.Ordering.{is_lt}
+use Rattle.std.specs.List.{filter}
+use Rattle.std.specs.Ordering.{is_lt, ordering_then, nat_cmp}
 use Rattle.caches.specs.declared.keys.Key.{Key}
 use Rattle.caches.specs.declared.keys.Key.TheVariants.{Tool}
 use Rattle.caches.specs.declared.keeper_slots.Indexed.{Indexed}
-use Rattle.caches.specs.declared.keeper_slots.Stretch.{Stretch}
-use Rattle.caches.specs.contracts.keeper_slots.IndexedOrd.TheImpl.{ghosts}
-use Rattle.caches.specs.Keys.{same_key, key_total}
+use Rattle.caches.specs.Keys.{key_order, same_key, key_total}
 
 -- by key, and lines of one key by their entries' numbers
 abbrev pub line_order : Indexed → Indexed → Ordering
-line_order = ghosts.cmp
+line_order x y = ordering_then (key_order x.key y.key) (nat_cmp x.entry y.entry)
 
 -- it is a total order
 pub line_order_total : IsTotalOrder line_order
@@ -32,18 +31,11 @@ Below n xs = (k : ℕ) (d : Indexed) → k < length xs → (slice_index_or xs k 
 
 -- the lines that have the key
 abbrev pub lines_with : Key → List Indexed → List Indexed
-lines_with key [] = []
-lines_with key (x ∷ xs) = cond (same_key x.key key) (x ∷ lines_with key xs) (lines_with key xs)
+lines_with key = filter (λ x. same_key x.key key)
 
 -- the numbers of the entries that have the key
 abbrev pub numbers_with : Key → List Indexed → List ℕ
 numbers_with key xs = map (λ (x : Indexed). x.entry) (lines_with key xs)
-
--- a stretch that has all lines with the key, and no other
-pub record Spans (key : Key) (xs : List Indexed) (s : Stretch) : Type 0 where
-  pub climbs : s.start ≤ s.end
-  pub within : s.end ≤ length xs
-  pub lines : lines_with key xs ≡ take (s.end - s.start) (drop s.start xs)
 
 -- an entry is put into the index
 pub record Enlists (key : Key) (n : ℕ) (xs ys : List Indexed) : Type 0 where

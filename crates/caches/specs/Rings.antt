@@ -4,7 +4,7 @@ use Rattle.caches.specs.declared.ring_slots.RingSlot.{RingSlot}
 use Rattle.caches.specs.Entries.{Entry, entry}
 
 abbrev pub ring_entry : RingSlot → Entry
-ring_entry s = entry s.key s.product (take s.len s.answers)
+ring_entry s = entry s.key s.product s.answers.items
 
 abbrev pub ring_entries : List RingSlot → List Entry
 ring_entries = map ring_entry

@@ -5,15 +5,17 @@
 ghost use Rattle.std.specs.Prelude.{◌≡◌, ℕ, ◌≤◌, Bool, List, [], length, Option};
 ghost use Rattle.std.specs.List.{slice_get};
 ghost use Rattle.caches.specs.declared.keys.Key.{Key};
-ghost use Rattle.caches.specs.Entries.{Entry, entry, with_key, answers_at, Took, Added, AllShort};
+ghost use Rattle.caches.specs.Entries.{Entry, offered, with_key, answers_at, Took, Added, AllShort};
 
 use crate::keys::Key;
+use crate::offers::Offer;
 use crate::questions::Answered;
 use values::Number;
 
 // The most answers that an entry has.
 pub const MOST_ANSWERS: usize = 64;
 
+// A key and k are two arguments and not one struct: a pair asks far for the same key, at k less what near has.
 pub trait Cache {
     // The entries held, and how many they are at most.
     ghost held: { Self → List Entry };
@@ -39,9 +41,9 @@ pub trait Cache {
         ensures exactly { takes key k self.old result self.new };
 
     // Offers a new entry: true where it is kept.
-    fn add(&mut self, key: Key, product: Number, answers: &[Answered]) -> bool
-        ensures added { Added (entry key product answers.now) (held self.old) result (held self.new) }
-        ensures exactly { adds (entry key product answers.now) self.old result self.new };
+    fn add(&mut self, offer: Offer) -> bool
+        ensures added { Added (offered offer.entry) (held self.old) result (held self.new) }
+        ensures exactly { adds (offered offer.entry) self.old result self.new };
 
     // Forgets everything.
     fn clear(&mut self)

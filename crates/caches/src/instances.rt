@@ -1,4 +1,5 @@
-// The same look-up at each kind of cache, and at pairs.
+// The same look-up at each kind of cache, and at pairs. The generic one is `first_product`; each function here says
+// what that promises at one kind, in words of that kind, which no contract over every cache can name.
 ghost use Rattle.std.specs.Prelude.{◌≡◌, ◌++◌, None};
 ghost use Rattle.caches.specs.Entries.{product_at};
 ghost use Rattle.caches.specs.Exact.{Looks};

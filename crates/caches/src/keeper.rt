@@ -1,18 +1,20 @@
 // A cache that forgets only when it is cleared, and does not keep what has no room.
-ghost use Rattle.std.specs.Prelude.{◌≡◌, ◌+◌, ◌<◌, ◌≤◌, ◌&&◌, [], IfOk, Some, None, vec_len, vec_capacity, MatchOption, nat_le, nat_lt};
+ghost use Rattle.std.specs.Prelude.{◌≡◌, ◌+◌, ◌<◌, ◌≤◌, ◌&&◌, [], IfOk, IfSome, vec_len, vec_capacity, nat_le, nat_lt};
 ghost use Rattle.std.specs.List.{slice_get};
+ghost use Rattle.std.specs.Option.{option_map};
 ghost use Rattle.caches.specs.declared.keys.Key.{Key};
 ghost use Rattle.caches.specs.Entries.{with_key};
 ghost use Rattle.caches.specs.Exact.{Looks, Keeps};
-ghost use Rattle.caches.specs.Slots.{slot_entry, slot_entries, Fit, all_lens, places};
-ghost use Rattle.caches.specs.Lines.{Sorted, Below, numbers_with, Spans, Enlists};
+ghost use Rattle.caches.specs.Slots.{slot_entry, Fit, all_lens, places};
+ghost use Rattle.caches.specs.Lines.{Sorted, Below, lines_with, numbers_with, Enlists};
 ghost use Rattle.std.proofs.Common.{arith};
 ghost use Rattle.std.proofs.lemmas.List.{length-map};
 ghost use Rattle.caches.specs.Laws.{slots_short};
 
 use crate::caches::{Cache, MOST_ANSWERS};
-use crate::keeper_slots::{Indexed, Slot, Stretch};
+use crate::keeper_slots::{Indexed, Slot};
 use crate::keys::Key;
+use crate::offers::Offer;
 use crate::questions::Answered;
 use ordered::{insert, place};
 use std::alloc::{AllocError, Global};
@@ -24,6 +26,8 @@ const ROOM: usize = 128;
 const ANSWERS: usize = 1024;
 
 // The slots of the entries, oldest first; their answers, one entry's behind another's; and the index.
+// They are Vecs that `new` makes at full size, since no later call may take memory, as a map's insert would.
+// No Model: the contracts of its private methods name the fields.
 #[derive(Drop)]
 pub struct Keeper {
     slots: Vec<Slot>,
@@ -51,8 +55,10 @@ fn enlist(index: &mut Vec<Indexed>, key: Key, entry: u16)
 }
 
 impl Keeper {
+    ghost use Rattle.caches.specs.Held.{keeper_held};
+
     pub fn new(heap: Global) -> Result<Keeper, AllocError>
-        ensures { IfOk result (λ k. slot_entries k.slots.items k.answers.items ≡ []) }
+        ensures { IfOk result (λ k. keeper_held k ≡ []) }
     {
         let slots = Vec::with_capacity(heap, ROOM)?;
         let answers = Vec::with_capacity(heap, ANSWERS)?;
@@ -71,39 +77,41 @@ impl Keeper {
         self.slots.len() < ROOM && len <= MOST_ANSWERS && self.answers.len() + len <= ANSWERS
     }
 
-    // Where the lines of a key stand in the index.
-    fn stretch(&self, key: Key) -> Stretch
-        ensures { Spans key self.now.index.items result }
+    // The lines of a key.
+    fn lines(&self, key: Key) -> &[Indexed]
+        ensures { result.now ≡ lines_with key self.now.index.items }
     {
-        let index = self.index.as_slice();
-        let start = place(index, &Indexed { key, entry: 0 });
-        let end = place(index, &Indexed { key, entry: 65535 });
-        Stretch { start, end }
+        let start = place(&self.index, &Indexed { key, entry: 0 });
+        let end = place(
+            &self.index,
+            &Indexed {
+                key,
+                entry: u16::MAX,
+            },
+        );
+        &self.index[start..end]
     }
 
     // The k-th entry that has the key.
-    fn kth(&self, key: Key, k: u16) -> Option<Slot>
-        ensures { MatchOption result (slice_get (with_key key (slot_entries self.now.slots.items self.now.answers.items)) k ≡ None) (λ s. (slice_get (with_key key (slot_entries self.now.slots.items self.now.answers.items)) k ≡ Some (slot_entry self.now.answers.items s)) × (s.from + s.len ≤ vec_len self.now.answers)) }
+    fn kth(&self, key: Key, k: u16) -> Option<&Slot>
+        ensures entry { option_map (λ s. slot_entry self.now.answers.items s.now) result ≡ slice_get (with_key key (keeper_held self.now)) k }
+        ensures fits { IfSome result (λ s. s.now.from + s.now.len ≤ vec_len self.now.answers) }
     {
-        let lines = self.stretch(key);
-        let k = usize::from(k);
-        if k < lines.end - lines.start {
-            let line = self.index[lines.start + k];
-            Some(self.slots[usize::from(line.entry)])
-        } else {
-            None
-        }
+        let line = self.lines(key).get(usize::from(k))?;
+        Some(&self.slots[usize::from(line.entry)])
     }
 }
 
 impl Cache for Keeper {
-    ghost held = { λ k. slot_entries k.slots.items k.answers.items };
+    ghost use Rattle.caches.specs.Held.{keeper_held};
+
+    ghost held = { keeper_held };
 
     ghost room = { 128 };
 
-    ghost adds = { λ e s r t. Keeps e (slot_entries s.slots.items s.answers.items) r (slot_entries t.slots.items t.answers.items) };
+    ghost adds = { λ e s r t. Keeps e (keeper_held s) r (keeper_held t) };
 
-    ghost takes = { λ key k s r t. Looks key k (slot_entries s.slots.items s.answers.items) r (slot_entries t.slots.items t.answers.items) };
+    ghost takes = { λ key k s r t. Looks key k (keeper_held s) r (keeper_held t) };
 
     ghost small = { omega arith };
 
@@ -111,46 +119,36 @@ impl Cache for Keeper {
 
     ghost short = { λ s. slots_short s.slots.items s.answers.items };
 
+    #[tactic(auto, using(crate::proofs::Rows::lines_length, crate::proofs::Lists::filter_length))]
     fn count(&self, key: Key) -> u16 {
-        let lines = self.stretch(key);
-        (lines.end - lines.start) as u16
+        self.lines(key).len() as u16
     }
 
     fn answer(&self, key: Key, k: u16, j: u16) -> Option<Answered> {
-        match self.kth(key, k) {
-            Some(slot) => {
-                let j = usize::from(j);
-                if j < slot.len {
-                    Some(self.answers[slot.from + j])
-                } else {
-                    None
-                }
-            }
-            None => None,
-        }
+        let slot = self.kth(key, k)?;
+        let answers = &self.answers[slot.from..slot.from + slot.len];
+        answers.get(usize::from(j)).copied()
     }
 
+    #[tactic(auto, using(crate::proofs::Lists::took_looked))]
     fn take(&mut self, key: Key, k: u16) -> Option<Number> {
-        match self.kth(key, k) {
-            Some(slot) => Some(slot.product),
-            None => None,
-        }
+        self.kth(key, k).map(|slot| slot.product)
     }
 
-    fn add(&mut self, key: Key, product: Number, answers: &[Answered]) -> bool {
-        if !self.has_room(answers.len()) {
+    fn add(&mut self, offer: Offer) -> bool {
+        if !self.has_room(offer.answers.len()) {
             return false;
         }
         let slot = Slot {
-            key,
-            product,
+            key: offer.key,
+            product: offer.product,
             from: self.answers.len(),
-            len: answers.len(),
+            len: offer.answers.len(),
         };
         let entry = self.slots.len() as u16;
-        let _ = self.answers.extend_from_slice(answers);
+        let _ = self.answers.extend_from_slice(offer.answers);
         self.slots.push_reserved(slot);
-        enlist(&mut self.index, key, entry);
+        enlist(&mut self.index, offer.key, entry);
         true
     }
 

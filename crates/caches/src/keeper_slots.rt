@@ -5,7 +5,8 @@ use crate::keys::Key;
 use values::Number;
 
 // An entry: its answers stand in a row that all entries share, `len` of them from `from` on.
-#[derive(Clone, Copy)]
+// Not a Range: the contracts count answers by `len`, which would be a difference.
+#[derive(Drop)]
 pub struct Slot {
     pub(crate) key: Key,
     pub(crate) product: Number,
@@ -19,11 +20,4 @@ pub struct Slot {
 pub struct Indexed {
     pub(crate) key: Key,
     pub(crate) entry: u16,
-}
-
-// A stretch of the index: from `start` to before `end`.
-#[derive(Clone, Copy)]
-pub struct Stretch {
-    pub(crate) start: usize,
-    pub(crate) end: usize,
 }

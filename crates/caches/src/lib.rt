@@ -9,12 +9,12 @@ mod keeper_slots;
 mod keys;
 mod looking;
 mod none;
+mod offers;
 mod pair;
 mod paths;
 mod places;
 mod questions;
 mod ring;
-mod ring_rows;
 mod ring_slots;
 mod rooms;
 
@@ -27,8 +27,11 @@ pub use crate::keeper::Keeper;
 pub use crate::keys::Key;
 pub use crate::looking::first_product;
 pub use crate::none::NoCache;
+pub use crate::offers::Offer;
 pub use crate::pair::{Pair, recall};
 pub use crate::paths::Path;
 pub use crate::places::{Place, Root};
-pub use crate::questions::{Answered, Found, Question, ValueKind, same_found, same_question};
+pub use crate::questions::{
+    Answered, Answers, Found, Question, ValueKind, same_found, same_question,
+};
 pub use crate::ring::Ring;

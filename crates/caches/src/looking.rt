@@ -7,6 +7,7 @@ use crate::keys::Key;
 use values::Number;
 
 // Takes the first entry that has the key, and gives its product.
+#[tactic(auto, using(crate::proofs::Lists::took_product, crate::proofs::Lists::took_within))]
 pub fn first_product<C: Cache>(cache: &mut C, key: Key) -> Option<Number>
     ensures product { result ≡ product_at key 0 (C.Cache.held cache.old) }
     ensures within { Within (C.Cache.held cache.new) (C.Cache.held cache.old) }

@@ -5,6 +5,7 @@ ghost use Rattle.std.proofs.Common.{arith};
 
 use crate::caches::Cache;
 use crate::keys::Key;
+use crate::offers::Offer;
 use crate::questions::Answered;
 use values::Number;
 
@@ -38,7 +39,7 @@ impl Cache for NoCache {
         None
     }
 
-    fn add(&mut self, key: Key, product: Number, answers: &[Answered]) -> bool {
+    fn add(&mut self, offer: Offer) -> bool {
         false
     }
 

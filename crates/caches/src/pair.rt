@@ -1,5 +1,5 @@
 // Two caches as one: what near holds, then what far holds.
-ghost use Rattle.std.specs.Prelude.{◌≡◌, ◌+◌, ◌≤◌, ◌++◌, length, take};
+ghost use Rattle.std.specs.Prelude.{◌≡◌, ◌+◌, ◌≤◌, ◌++◌, length};
 ghost use Rattle.std.proofs.Common.{length-append, arith, ⊎_elim};
 ghost use Rattle.caches.specs.Entries.{with_key, answers_at};
 ghost use Rattle.caches.specs.Exact.{AddsBoth, TakesEither};
@@ -8,7 +8,8 @@ ghost use Rattle.caches.specs.Laws.{member_split};
 use crate::beside::Beside;
 use crate::caches::Cache;
 use crate::keys::Key;
-use crate::questions::{Answered, blank};
+use crate::offers::Offer;
+use crate::questions::{Answered, Answers};
 use values::Number;
 
 // The near cache is looked into first, and is offered what is taken from the far one.
@@ -27,18 +28,17 @@ impl<N: Cache, F: Cache> Pair<N, F> {
     }
 }
 
-// Copies the answers of the k-th entry that has the key, and says how many they are.
-pub fn recall<C: Cache>(cache: &C, key: Key, k: u16, answers: &mut [Answered; 64]) -> usize
-    ensures within { result ≤ 64 }
-    ensures copied { take result answers.new ≡ answers_at key k (C.Cache.held cache.now) }
+// The answers of the k-th entry that has the key.
+#[tactic(auto, using(crate::proofs::Copies::copied_none, crate::proofs::Copies::more_left, crate::proofs::Copies::copied_more, crate::proofs::Copies::copied_all))]
+pub fn recall<C: Cache>(cache: &C, key: Key, k: u16) -> Answers
+    ensures within { length result.items ≤ 64 }
+    ensures recalled { result.items ≡ answers_at key k (C.Cache.held cache.now) }
 {
-    for j in 0..64u16 {
-        match cache.answer(key, k, j) {
-            Some(a) => answers[j as usize] = a,
-            None => return j as usize,
-        }
+    let mut answers = Answers::new();
+    while let Some(answered) = cache.answer(key, k, answers.len() as u16) {
+        answers.push(answered);
     }
-    64
+    answers
 }
 
 impl<N: Beside<F>, F: Cache> Cache for Pair<N, F> {
@@ -56,10 +56,12 @@ impl<N: Beside<F>, F: Cache> Cache for Pair<N, F> {
 
     ghost short = { λ s e m. ⊎_elim (N.Cache.short s.near e) (F.Cache.short s.far e) (member_split e (N.Cache.held s.near) (F.Cache.held s.far) m) };
 
+    #[tactic(auto, using(crate::proofs::Lists::with_key_append, crate::proofs::Lists::filter_length))]
     fn count(&self, key: Key) -> u16 {
         self.near.count(key) + self.far.count(key)
     }
 
+    #[tactic(auto, using(crate::proofs::Lists::at_left, crate::proofs::Lists::at_right))]
     fn answer(&self, key: Key, k: u16, j: u16) -> Option<Answered> {
         let n = self.near.count(key);
         if k < n {
@@ -73,23 +75,22 @@ impl<N: Beside<F>, F: Cache> Cache for Pair<N, F> {
     fn take(&mut self, key: Key, k: u16) -> Option<Number> {
         let n = self.near.count(key);
         if k < n {
-            self.near.take(key, k)
-        } else {
-            let mut answers = blank();
-            let len = recall(&self.far, key, k - n, &mut answers);
-            match self.far.take(key, k - n) {
-                Some(product) => {
-                    let _ = self.near.add(key, product, &answers[0..len]);
-                    Some(product)
-                }
-                None => None,
-            }
+            return self.near.take(key, k);
         }
+        let answers = recall(&self.far, key, k - n);
+        let product = self.far.take(key, k - n)?;
+        let _ = self.near.add(Offer {
+            key,
+            product,
+            answers: &answers,
+        });
+        Some(product)
     }
 
-    fn add(&mut self, key: Key, product: Number, answers: &[Answered]) -> bool {
-        let near = self.near.add(key, product, answers);
-        let far = self.far.add(key, product, answers);
+    #[tactic(auto, using(crate::proofs::Lists::added_both))]
+    fn add(&mut self, offer: Offer) -> bool {
+        let near = self.near.add(offer);
+        let far = self.far.add(offer);
         near | far
     }
 

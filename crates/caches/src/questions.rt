@@ -1,8 +1,10 @@
 // Questions that a run asks, and what it found.
-ghost use Rattle.std.specs.Prelude.{◌≡◌, length, Decides};
+ghost use Rattle.std.specs.Prelude.{◌≡◌, false, Decides};
 ghost use Rattle.caches.specs.Sameness.{question_numbers};
 
+use crate::caches::MOST_ANSWERS;
 use crate::places::Place;
+use arrayvec::ArrayVec;
 use values::Number;
 
 // The kinds of values.
@@ -42,24 +44,35 @@ pub struct Answered {
     pub found: Found,
 }
 
-// An array to copy answers to.
-pub(crate) fn blank() -> [Answered; 64]
-    ensures { length result ≡ 64 }
-{
-    [Answered {
-        question: Question::Function(0),
-        found: Found::Presence(false),
-    }; 64]
+// The answers of an entry, in the order in which the questions were asked.
+pub type Answers = ArrayVec<Answered, MOST_ANSWERS>;
+
+// What stands in an unused place of a row of answers.
+impl Default for Answered {
+    ghost use Rattle.caches.specs.declared.questions.Question.{Question};
+    ghost use Rattle.caches.specs.declared.questions.Found.{Found};
+
+    ghost is_default = { λ a. (a.question ≡ Question.Function 0) × (a.found ≡ Found.Presence false) };
+
+    fn default() -> Answered {
+        Answered {
+            question: Question::Function(0),
+            found: Found::Presence(false),
+        }
+    }
 }
 
-// Whether two questions are the same.
+// Whether two questions are the same. It is `==`, and stays beside it for its contract, which no derive can name:
+// it tells whether the questions' numbers are the same.
 pub fn same_question(a: &Question, b: &Question) -> bool
     ensures { Decides result (question_numbers a.now ≡ question_numbers b.now) }
 {
     *a == *b
 }
 
-// Whether the same was found.
+// Whether the same was found. It is `==`, and stays beside it for its contract, which no derive can name:
+// it holds exactly of equal values.
+#[tactic(auto, using(crate::proofs::Deciding::found_decides))]
 pub fn same_found(x: &Found, y: &Found) -> bool
     ensures { Decides result (x.now ≡ y.now) }
 {

@@ -1,8 +1,8 @@
 -- An accepted tree is listed, and the table taken back. Assumes nothing.
-use Rattle.std.proofs.Common.{◌≡◌, ℕ, ◌-◌, ◌≤◌, min, max, Bool, true, false, leb, List, ◌++◌, length, take, drop, Ok, Err, MatchBool, Result, sym, refl, ap, ◌∙◌, subst, arith}
+use Rattle.std.proofs.Common.{◌≡◌, ℕ, ◌≤◌, max, true, leb, List, ◌++◌, length, take, drop, Ok, Err, MatchBool, Result, refl, ap, ◌∙◌, subst, arith}
 use mathlib.Core.Option.{Option, some}
 use Rattle.std.proofs.lemmas.Bool.Decides.{nat_tests}
-use Rattle.std.proofs.lemmas.List.{take_at, take-take, take-append-le, take_all, length-take}
+use Rattle.std.proofs.lemmas.List.{take_at, take-take, take-append-le, length-take}
 use Rattle.values.specs.Values.{Value}
 use Rattle.values.specs.Table.{Table}
 use Rattle.values.specs.Memory.{values}
@@ -44,14 +44,3 @@ front_is bs new rest n m e l f =
     let whole = length-take (length bs) new in
     let k : n ≤ length new = grind (arith, nat_tests) in
     take-take n m (new ++ rest) l ∙ take-append-le n new rest k ∙ ap (λ i. take i new) e ∙ f
-
--- a front that is no longer than the buffer
-pub front_of : (xs : List ℕ) (a b n : ℕ) → n ≡ min a b → b ≡ length xs → take (n - 0) xs ≡ take a xs
-front_of xs a b n e f = go (leb a b) refl
-  where
-    go : (t : Bool) → leb a b ≡ t → take (n - 0) xs ≡ take a xs
-    go true h = let same : n - 0 ≡ a = grind (arith, nat_tests) in ap (λ i. take i xs) same
-    go false h =
-        let long : length xs ≤ n - 0 = grind (arith, nat_tests) in
-        let more : length xs ≤ a = grind (arith, nat_tests) in
-        take_all (n - 0) xs long ∙ sym (take_all a xs more)

@@ -1,11 +1,10 @@
--- The numbers of the answers. Assumes nothing.
+-- The numbers of what is not shown. Assumes nothing.
 use Rattle.std.specs.Prelude.{ℕ}
 use Rattle.trees.specs.Numbers.{number as tree_number}
-use Rattle.checker.specs.declared.answers.Shown.{Shown}
-use Rattle.checker.specs.declared.answers.Shown.TheVariants.{Listed, Refused, Full}
+use Rattle.checker.specs.declared.answers.Unshown.{Unshown}
+use Rattle.checker.specs.declared.answers.Unshown.TheVariants.{Refused, Full}
 
--- a file that is listed has none; the table is full under 31
-abbrev pub number : Shown → ℕ
-number (Listed n) = 0
+-- a refused file has its own; the table is full under 31
+abbrev pub number : Unshown → ℕ
 number (Refused e) = tree_number e.refusal
 number Full = 31

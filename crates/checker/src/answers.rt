@@ -1,29 +1,49 @@
-// What showing a tree file answers.
+// Why a tree file is not shown.
 ghost use Rattle.std.specs.Prelude.{◌≡◌};
 ghost use Rattle.checker.specs.Numbers.{number as number_of};
 
+use entering::Full;
 use trees::Refused;
 
-// A tree file is listed, refused, or accepted and too large for the value table.
-#[derive(Clone, Copy)]
-pub enum Shown {
-    // Accepted: so many bytes at the front of the buffer are the listing of its value.
-    Listed(usize),
+// A tree file is refused, or accepted and too large for the value table.
+#[derive(Clone, Copy, PartialEq, Eq, Debug)]
+pub enum Unshown {
     // Refused by the rules of tree files.
     Refused(Refused),
     // Accepted, but the value table has no room for all its names and values.
     Full,
 }
 
-impl Shown {
-    // The number of the refusal, 0 where the file is listed.
+impl Unshown {
+    // The number of the refusal.
     pub fn number(self) -> u8
         ensures { result ≡ number_of self }
     {
         match self {
-            Shown::Listed(_) => 0,
-            Shown::Refused(refused) => refused.refusal.number(),
-            Shown::Full => 31,
+            Unshown::Refused(refused) => refused.refusal.number(),
+            Unshown::Full => 31,
         }
+    }
+}
+
+// What breaks the rules is not shown.
+impl From<Refused> for Unshown {
+    ghost use Rattle.checker.specs.declared.answers.Unshown.{Unshown};
+
+    ghost from_gives = { λ refused unshown. unshown ≡ Unshown.Refused refused };
+
+    fn from(refused: Refused) -> Self {
+        Self::Refused(refused)
+    }
+}
+
+// What the table has no room for is not shown.
+impl From<Full> for Unshown {
+    ghost use Rattle.checker.specs.declared.answers.Unshown.{Unshown};
+
+    ghost from_gives = { λ _ unshown. unshown ≡ Unshown.Full };
+
+    fn from(_full: Full) -> Self {
+        Self::Full
     }
 }

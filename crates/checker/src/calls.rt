@@ -4,7 +4,7 @@ ghost use Rattle.values.specs.Values.{truth};
 ghost use Rattle.values.specs.Memory.{values};
 ghost use Rattle.checker.specs.Shows.{Shows};
 
-use crate::answers::Shown;
+use crate::answers::Unshown;
 use crate::desk::Checker;
 use entering::enter;
 use listing::list;
@@ -25,23 +25,20 @@ impl Checker {
         Ok(Checker { table, buffer })
     }
 
-    // Checks any bytes as a tree file and, if they are accepted, lists their value into the buffer. The value table is as before.
-    pub fn show(&mut self, bytes: &[u8]) -> Shown
+    // Checks any bytes as a tree file and, if they are accepted, lists their value into the buffer: so many bytes at its front. The value
+    // table is as before. A length is answered, and not the bytes: they would keep the checker lent, and no clause could say what it is then.
+    pub fn show(&mut self, bytes: &[u8]) -> Result<usize, Unshown>
         ensures shown { Shows bytes.now (values self.old.table) result self.new.buffer.items }
         ensures kept { values self.new.table ≡ values self.old.table }
     {
-        if let Err(refused) = check(bytes) {
-            return Shown::Refused(refused);
-        }
+        check(bytes)?;
         let tree = Tree { bytes };
         let len = self.table.len();
-        let Ok(number) = enter(&tree, &mut self.table) else {
-            return Shown::Full;
-        };
+        let number = enter(&tree, &mut self.table)?;
         let listed = list(&self.table, number, &mut self.buffer);
         self.table.truncate(len);
         match listed {
-            Ok(n) => Shown::Listed(n),
+            Ok(end) => Ok(end),
             Err(_) => unreachable(),
         }
     }
@@ -51,6 +48,6 @@ impl Checker {
         ensures { result.now ≡ take len self.now.buffer.items }
     {
         let end = len.min(self.buffer.len());
-        &self.buffer[0..end]
+        &self.buffer[..end]
     }
 }

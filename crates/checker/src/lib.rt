@@ -5,5 +5,5 @@ mod answers;
 mod calls;
 mod desk;
 
-pub use crate::answers::Shown;
+pub use crate::answers::Unshown;
 pub use crate::desk::Checker;

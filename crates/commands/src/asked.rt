@@ -1,7 +1,7 @@
 // What a command asks for.
 
 // A command, with the name of the file that it is about.
-#[derive(Clone, Copy)]
+#[derive(Clone, Copy, PartialEq, Eq, Debug)]
 pub enum Command<'a> {
     // An empty line or a remark: nothing is asked.
     Nothing,

@@ -1,26 +1,22 @@
 -- What stands at the end of a line. Assumes nothing.
-use Rattle.std.proofs.Common.{◌≡◌, ℕ, ◌-◌, ◌≤◌, Bool, true, false, not, ◌&&◌, eqb, leb, List, [], ◌∷◌, ◌++◌, length, get_or, take, drop, Some, None, Option as Answer, Result, sym, refl, ap, ◌∙◌, subst, append-nil, arith, Bor}
+use Rattle.std.proofs.Common.{◌≡◌, ℕ, Bool, true, false, not, ◌&&◌, eqb, List, [], ◌∷◌, ◌++◌, get_or, Some, None, Option as Answer, Result, sym, refl, ap, ◌∙◌, subst, append-nil, arith, Bor}
+use Rattle.std.proofs.lemmas.Bool.{and_parts, eqb-false}
 use mathlib.Core.Option.{some}
-use Rattle.std.proofs.lemmas.List.{take_rest}
 use Rattle.std.proofs.lemmas.Bool.Decides.{nat_tests}
 use Rattle.values.specs.Values.{text, truth, nth}
-use Rattle.values.specs.Limits.{small}
 use Rattle.values.specs.Table.{Table}
 use Rattle.trees.specs.Cuts.{free, behind}
 use Rattle.trees.specs.Lines.{Leaf, text_leaf, truth_leaf, empty_leaf, leaf_value}
 use Rattle.trees.specs.Files.{escape, unescape, plain}
-use Rattle.trees.proofs.Splits.{no, both, free_escape, unescape_escape}
+use Rattle.trees.proofs.Splits.{no, free_escape, unescape_escape}
 use Rattle.entering.specs.Entries.{parts, enter_all}
-use Rattle.entering.specs.Levels.{leaf_bytes, HasContent}
-use Rattle.entering.specs.Steps.{EntersEach, EntersContent}
+use Rattle.entering.specs.Levels.{leaf_bytes}
+use Rattle.entering.specs.Steps.{EntersEach}
 use Rattle.entering.specs.declared.answers.Full.{Full}
 use Rattle.entering.proofs.Growing.{truth_entered}
 
 clash : {P : Type 0} {a b : ℕ} → eqb a b ≡ false → a ≡ b → P
-clash e f = absurd (differ e f)
-  where
-    differ : {a b : ℕ} → eqb a b ≡ false → a ≡ b → ⊥
-    differ e f = grind (arith, nat_tests)
+clash e f = absurd (eqb-false _ _ e f)
 
 -- the text of a content that was written out
 pub text_is : (l s bytes : List ℕ) → some l ≡ unescape bytes → bytes ≡ escape s → l ≡ s
@@ -30,25 +26,6 @@ pub same_text : (l s : List ℕ) (T : Table) (r : Result ℕ Full) (T' : Table) 
 same_text l s T r T' e h = subst (λ t. EntersEach (text t ∷ []) (text t) T r T') e h
 
 -- a leaf by its kind
-text_only : (c : Leaf) (bytes : List ℕ) → bytes ≡ leaf_bytes c → get_or bytes 0 0 ≡ 116 → (s : List ℕ) × (c ≡ text_leaf s) × (take (length bytes - 2) (drop 2 bytes) ≡ escape s)
-text_only (text_leaf s) bytes e k = (s, refl, take_rest bytes 2 ∙ ap (drop 2) e)
-text_only (truth_leaf b) bytes e k = clash {a = 98} {b = 116} refl (sym (ap (λ l. get_or l 0 0) e) ∙ k)
-text_only empty_leaf bytes e k = clash {a = 101} {b = 116} refl (sym (ap (λ l. get_or l 0 0) e) ∙ k)
-
-pub content_there : (c : Leaf) (bytes : List ℕ) → bytes ≡ leaf_bytes c → small (leaf_value c) ≡ true → get_or bytes 0 0 ≡ 116 → HasContent (take (length bytes - 2) (drop 2 bytes)) 1024
-content_there c bytes e s k =
-    let t = text_only c bytes e k in
-    let short : leb (length t.0) 1024 ≡ true = sym (ap (λ x. small (leaf_value x)) t.1) ∙ s in
-    (t.0, t.2, at_most (length t.0) short)
-  where
-    at_most : (a : ℕ) → leb a 1024 ≡ true → a ≤ 1024
-    at_most a h = grind (arith, nat_tests)
-
-pub text_enters : (c : Leaf) (bytes : List ℕ) → bytes ≡ leaf_bytes c → get_or bytes 0 0 ≡ 116 → (T : Table) (r : Result ℕ Full) (T' : Table) → EntersContent (take (length bytes - 2) (drop 2 bytes)) T r T' → EntersEach (parts (leaf_value c)) (leaf_value c) T r T'
-text_enters c bytes e k T r T' h =
-    let t = text_only c bytes e k in
-    subst (λ x. EntersEach (parts (leaf_value x)) (leaf_value x) T r T') (sym t.1) (h t.0 t.2)
-
 pub truth_enters : (c : Leaf) (bytes : List ℕ) → bytes ≡ leaf_bytes c → get_or bytes 0 0 ≡ 98 → (T : Table) (i : ℕ) → nth T i ≡ some (truth (eqb (get_or bytes 2 0) 84)) → (enter_all (parts (leaf_value c)) T ≡ some T) × (nth T i ≡ some (leaf_value c))
 truth_enters (text_leaf s) bytes e k T i h = clash {a = 116} {b = 98} refl (sym (ap (λ l. get_or l 0 0) e) ∙ k)
 truth_enters (truth_leaf true) bytes e k T i h = let f = h ∙ ap (λ l. some (truth (eqb (get_or l 2 0) 84))) e in (truth_entered true T i f, f)
@@ -80,14 +57,14 @@ same_cut : (z : ℕ) (p q r s : List ℕ) → free z p ≡ true → free z q ≡
 same_cut z [] [] r s e f g = (refl, cc)
 same_cut z [] (b ∷ q) r s e f g =
     let k : z ≡ b = cc in
-    no (sym (both (not (eqb b z)) (free z q) f).0 ∙ ap (λ x. not (eqb x z)) (sym k) ∙ ap not (eqb_self z))
+    no (sym (and_parts (not (eqb b z)) (free z q) f).0 ∙ ap (λ x. not (eqb x z)) (sym k) ∙ ap not (eqb_self z))
 same_cut z (b ∷ p) [] r s e f g =
     let k : b ≡ z = cc in
-    no (sym (both (not (eqb b z)) (free z p) e).0 ∙ ap (λ x. not (eqb x z)) k ∙ ap not (eqb_self z))
+    no (sym (and_parts (not (eqb b z)) (free z p) e).0 ∙ ap (λ x. not (eqb x z)) k ∙ ap not (eqb_self z))
 same_cut z (b ∷ p) (d ∷ q) r s e f g =
     let k : b ≡ d = cc in
     let t : p ++ z ∷ r ≡ q ++ z ∷ s = cc in
-    let h = same_cut z p q r s (both (not (eqb b z)) (free z p) e).1 (both (not (eqb d z)) (free z q) f).1 t in
+    let h = same_cut z p q r s (and_parts (not (eqb b z)) (free z p) e).1 (and_parts (not (eqb d z)) (free z q) f).1 t in
     ((λ j. k j ∷ h.0 j), h.1)
 
 -- the first line feed stands behind the leaf

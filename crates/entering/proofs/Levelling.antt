@@ -1,11 +1,12 @@
 -- The lines of values and members as bytes, taken apart from the front. Assumes nothing.
 use Rattle.std.proofs.Common.{◌≡◌, ℕ, ◌+◌, ◌-◌, ◌<◌, ◌≤◌, Bool, true, false, cond, not, ◌&&◌, eqb, ltb, leb, List, [], ◌∷◌, ◌++◌, length, get_or, take, drop, sym, refl, ap, ◌∙◌, subst, append_assoc, arith}
+use Rattle.std.proofs.lemmas.Bool.{and_parts}
 use Rattle.std.proofs.lemmas.List.{append_cancel_left, length-append, get_or_at, take_at, drop_at, take_rest}
 use Rattle.std.proofs.lemmas.Bool.Decides.{nat_tests}
 use Rattle.values.specs.Values.{Name, Value, text, truth, binding, Members, nil, cons, before}
 use Rattle.values.specs.Limits.{dots, name_byte, name_bytes, fit, many, height, small, all_small, first_after, ordered, all_ordered, named, all_named}
 use Rattle.trees.specs.Lines.{Leaf, text_leaf, truth_leaf, empty_leaf, leaf_value}
-use Rattle.trees.proofs.Splits.{no, both}
+use Rattle.trees.proofs.Splits.{no}
 use Rattle.entering.specs.Levels.{leaf_bytes, leaf_line, value_bytes, binding_bytes, member_bytes, front_name, Ends, Sound, Level, Placed, Single}
 use Rattle.entering.proofs.Bytes.{front_is}
 
@@ -61,14 +62,14 @@ none_left q = refl
 
 pub fit_bytes : (n : Name) → fit n ≡ true → name_bytes n ≡ true
 fit_bytes n e =
-    let a = both (leb 1 (length n)) (leb (length n) 32 && (not (dots n) && name_bytes n)) e in
-    let b = both (leb (length n) 32) (not (dots n) && name_bytes n) a.1 in
-    (both (not (dots n)) (name_bytes n) b.1).1
+    let a = and_parts (leb 1 (length n)) (leb (length n) 32 && (not (dots n) && name_bytes n)) e in
+    let b = and_parts (leb (length n) 32) (not (dots n) && name_bytes n) a.1 in
+    (and_parts (not (dots n)) (name_bytes n) b.1).1
 
 pub fit_short : (n : Name) → fit n ≡ true → length n ≤ 32
 fit_short n e =
-    let a = both (leb 1 (length n)) (leb (length n) 32 && (not (dots n) && name_bytes n)) e in
-    let b = (both (leb (length n) 32) (not (dots n) && name_bytes n) a.1).0 in
+    let a = and_parts (leb 1 (length n)) (leb (length n) 32 && (not (dots n) && name_bytes n)) e in
+    let b = (and_parts (leb (length n) 32) (not (dots n) && name_bytes n) a.1).0 in
     grind (arith, nat_tests)
 
 -- what follows a member does not belong to it
@@ -99,18 +100,18 @@ next_ends q n (cons m w ms) after f g o h = λ k.
     ap (λ l. (l ++ member_bytes q ms) ++ after) a.is ∙ first_member q m a.mark a.rest (member_bytes q ms) after in
     let same : m ++ a.mark ∷ (a.rest ++ (member_bytes q ms ++ after)) ≡ n ++ 47 ∷ k.begins.rest =
     append_cancel_left q _ _ (sym there ∙ k.begins.is ∙ split_name q n k.begins.rest) in
-    let fm = (both (fit m) (named w && all_named ms) g).0 in
+    let fm = (and_parts (fit m) (named w && all_named ms) g).0 in
     let names : m ≡ n = sym (front_is m a.mark (a.rest ++ (member_bytes q ms ++ after)) (fit_bytes m fm) a.no_name) ∙ ap front_name same ∙ front_is n 47 k.begins.rest (fit_bytes n f) refl in
     no (sym o ∙ ap (before n) names ∙ before_self n)
 
 -- the first of the members to come
 pub the_single : (q bytes : List ℕ) (levels : ℕ) (n : Name) (v : Value) (ms : Members) (after : List ℕ) → bytes ≡ member_bytes q (cons n v ms) ++ after → Ends q after → Sound (cons n v ms) levels → levels ≤ 16 → Single q bytes levels n v (member_bytes q ms ++ after)
 the_single q bytes levels n v ms after e h s l =
-    let small-both = both (small v) (all_small ms) s.are_small in
-    let named-first = both (fit n) (named v && all_named ms) s.are_named in
-    let named-both = both (named v) (all_named ms) named-first.1 in
-    let ordered-first = both (ordered v) (first_after n ms && all_ordered ms) s.are_ordered in
-    let ordered-both = both (first_after n ms) (all_ordered ms) ordered-first.1 in
+    let small-both = and_parts (small v) (all_small ms) s.are_small in
+    let named-first = and_parts (fit n) (named v && all_named ms) s.are_named in
+    let named-both = and_parts (named v) (all_named ms) named-first.1 in
+    let ordered-first = and_parts (ordered v) (first_after n ms && all_ordered ms) s.are_ordered in
+    let ordered-both = and_parts (first_after n ms) (all_ordered ms) ordered-first.1 in
     let low = s.low in
     record {
       fits = named-first.0;
@@ -129,16 +130,16 @@ pub the_others : (levels : ℕ) (n : Name) (v : Value) (ms : Members) → Sound 
 the_others levels n v ms s =
     let low = s.low in
     record {
-      are_small = (both (small v) (all_small ms) s.are_small).1;
-      are_ordered = (both (first_after n ms) (all_ordered ms) (both (ordered v) (first_after n ms && all_ordered ms) s.are_ordered).1).1;
-      are_named = (both (named v) (all_named ms) (both (fit n) (named v && all_named ms) s.are_named).1).1;
+      are_small = (and_parts (small v) (all_small ms) s.are_small).1;
+      are_ordered = (and_parts (first_after n ms) (all_ordered ms) (and_parts (ordered v) (first_after n ms && all_ordered ms) s.are_ordered).1).1;
+      are_named = (and_parts (named v) (all_named ms) (and_parts (fit n) (named v && all_named ms) s.are_named).1).1;
       low = omega arith;
     }
 
 -- a binding with members, one level down
 pub the_level : (p bytes : List ℕ) (levels : ℕ) (n : Name) (w : Value) (ms : Members) (v : Value) (after : List ℕ) → v ≡ binding (cons n w ms) → Placed p bytes levels v after → Level (p ++ 47 ∷ []) bytes (levels - 1) (cons n w ms) after
 the_level p bytes levels n w ms v after e h =
-    let small-both = both (leb (many (cons n w ms)) 64) (all_small (cons n w ms)) (sym (ap small e) ∙ h.is_small) in
+    let small-both = and_parts (leb (many (cons n w ms)) 64) (all_small (cons n w ms)) (sym (ap small e) ∙ h.is_small) in
     let low = h.low in
     let high = ap height e in
     let shallow = h.shallow in

@@ -1,7 +1,7 @@
 -- Entering the members of a level one after the other. Assumes nothing.
-use Rattle.std.proofs.Common.{◌≡◌, ℕ, ◌+◌, ◌<◌, ◌≤◌, List, [], ◌∷◌, ◌++◌, length, take, Ok, Err, sym, refl, ap, ◌∙◌, subst, append_assoc, append-nil, arith}
+use Rattle.std.proofs.Common.{◌≡◌, ℕ, ◌+◌, ◌<◌, ◌≤◌, List, [], ◌∷◌, ◌++◌, length, Ok, Err, Bor, sym, refl, ap, ◌∙◌, subst, append_assoc, append-nil, arith}
 use mathlib.Core.Option.{none, some}
-use Rattle.std.proofs.lemmas.List.{length-append, length-take-le}
+use Rattle.std.proofs.lemmas.List.{length-append}
 use Rattle.values.specs.Values.{Name, Value, text, binding, Members, nil, cons, nth}
 use Rattle.values.specs.Limits.{many}
 use Rattle.values.specs.Table.{Table}
@@ -10,7 +10,6 @@ use Rattle.entering.specs.Entries.{parts, member_parts, enter_all}
 use Rattle.entering.specs.Levels.{member_bytes, GoesOn, Ends, Sound, Level, Single}
 use Rattle.entering.specs.Steps.{Extends, Stands, Ready, EntersMembers, MemberEntered}
 use Rattle.entering.specs.declared.answers.Full.{Full}
-use Rattle.entering.specs.declared.answers.EnteredMember.{EnteredMember}
 use Rattle.entering.proofs.Growing.{unmoved, further, all_extends, on, stopped, kept}
 use Rattle.entering.proofs.Levelling.{value_front, first, none_left, the_single, the_others}
 
@@ -43,7 +42,7 @@ pub record Next (T₀ : Table) (prefix left : List ℕ) (levels : ℕ) (T : Tabl
   pub single : Single prefix left levels name value rest
   pub room : length l < many ms
   pub shorter : length rest < length left
-  pub more : (e : EnteredMember) (T' : Table) → MemberEntered name value rest T (Ok e) T' → Turn T₀ prefix e.rest.now levels T' (l ++ e.member ∷ []) ms after
+  pub more : (e : Member × Bor (List ℕ)) (T' : Table) → MemberEntered name value rest T (Ok e) T' → Turn T₀ prefix e.1.now levels T' (l ++ e.0 ∷ []) ms after
   pub full : (e : Full) (T' : Table) → MemberEntered name value rest T (Err e) T' → (enter_all (parts (binding ms)) T₀ ≡ none) × Extends T₀ T'
 
 goes_on : (prefix left : List ℕ) (n : Name) (v : Value) (ms : Members) (after : List ℕ) → left ≡ member_bytes prefix (cons n v ms) ++ after → GoesOn prefix left
@@ -84,17 +83,14 @@ next T₀ prefix left levels T l ms after d h g t = go t.to_come t.lines t.sound
         to_come = ns;
         lines = m.3;
         sound = the_others levels n v ns s;
-        all = let long = length-append l (x.member ∷ []) in omega arith;
+        all = let long = length-append l (x.0 ∷ []) in omega arith;
         entered = f ∙ on (text n ∷ parts v) (member_parts ns) T T' m.0;
         grown = further T₀ T T' t.grown (all_extends (text n ∷ parts v) T T' m.0);
-        stands = λ U j y z. subst (λ w. Stands U w ms) (sym (append_assoc l (x.member ∷ []) j))
-            (k U (x.member ∷ j) (further T T' U (all_extends (text n ∷ parts v) T T' m.0) y) (kept T' U y x.member.name (text n) m.1, kept T' U y x.member.value v m.2, z));
+        stands = λ U j y z. subst (λ w. Stands U w ms) (sym (append_assoc l (x.0 ∷ []) j))
+            (k U (x.0 ∷ j) (further T T' U (all_extends (text n ∷ parts v) T T' m.0) y) (kept T' U y x.0.name (text n) m.1, kept T' U y x.0.value v m.2, z));
       };
       full = λ x T' m. (stopped (member_parts ms) (binding ms ∷ []) T₀ (f ∙ stopped (text n ∷ parts v) (member_parts ns) T m.0), further T₀ T T' t.grown m.1);
     }
-
-pub one_more : (members : List Member) (count all : ℕ) → length members ≡ 64 → count ≤ 64 → length (take count members) < all → all ≤ 64 → count < 64
-one_more members count all e f g h = let inside : count ≤ length members = omega arith in omega (arith, length-take-le count members inside)
 
 -- all members of the level are entered
 pub record Done (T₀ : Table) (left : List ℕ) (T : Table) (l : List Member) (ms : Members) (after : List ℕ) : Type 0 where

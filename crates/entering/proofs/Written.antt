@@ -1,5 +1,6 @@
 -- An accepted tree is the lines of its members, level by level. Assumes nothing.
 use Rattle.std.proofs.Common.{◌≡◌, ℕ, ◌≤◌, true, ◌&&◌, leb, List, [], ◌∷◌, ◌++◌, map, sym, refl, ap, ◌∙◌, append_assoc, append-nil, arith}
+use Rattle.std.proofs.lemmas.Bool.{and_parts}
 use Rattle.std.proofs.lemmas.Bool.Decides.{nat_tests}
 use Rattle.values.specs.Values.{Name, Value, text, truth, binding, Members, nil, cons}
 use Rattle.values.specs.Limits.{many, height, small, all_small, all_ordered, all_named}
@@ -7,7 +8,6 @@ use Rattle.trees.specs.Lines.{Leaf, text_leaf, truth_leaf, empty_leaf, Line, lin
 use Rattle.trees.specs.Files.{joined, line_bytes, written}
 use Rattle.trees.specs.Accepted.{tree_members}
 use Rattle.trees.specs.declared.tree.Tree.{Tree}
-use Rattle.trees.proofs.Splits.{both}
 use Rattle.trees.proofs.Accepting.{tree_listed, tree_proper}
 use Rattle.entering.specs.Levels.{leaf_bytes, leaf_line, value_bytes, binding_bytes, member_bytes, Level}
 
@@ -79,10 +79,10 @@ written_members (cons n v ms) = written_both (map (below n) (lines v)) (lines_of
 pub tree_level : (t : Tree) → Level [] t.bytes.now 16 (tree_members t) []
 tree_level t =
     let ms = tree_members t in
-    let whole = both (leb (height (binding ms)) 16) (small (binding ms) && (all_ordered ms && all_named ms)) (tree_proper t) in
-    let sizes = both (small (binding ms)) (all_ordered ms && all_named ms) whole.1 in
-    let names = both (all_ordered ms) (all_named ms) sizes.1 in
-    let counts = both (leb (many ms) 64) (all_small ms) sizes.0 in
+    let whole = and_parts (leb (height (binding ms)) 16) (small (binding ms) && (all_ordered ms && all_named ms)) (tree_proper t) in
+    let sizes = and_parts (small (binding ms)) (all_ordered ms && all_named ms) whole.1 in
+    let names = and_parts (all_ordered ms) (all_named ms) sizes.1 in
+    let counts = and_parts (leb (many ms) 64) (all_small ms) sizes.0 in
     let low = at_most (height (binding ms)) 16 whole.0 in
     record {
       lines = sym (tree_listed t) ∙ written_members ms ∙ sym (append-nil (member_bytes [] ms));

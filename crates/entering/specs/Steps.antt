@@ -1,6 +1,7 @@
 -- What the steps of entering answer. Assumes nothing.
 use Rattle.std.specs.Prelude.{◌≡◌, ℕ, ◌≤◌, true, List, [], ◌∷◌, ◌++◌, Ok, Err, Result}
 use Rattle.std.proofs.Math.Option.{none, some}
+use Rattle.std.specs.Borrow.{Bor}
 use Rattle.values.specs.Values.{Name, Value, text, binding, Members, nil, cons, nth}
 use Rattle.values.specs.Limits.{many, height, all_ordered, all_named}
 use Rattle.values.specs.Table.{Table}
@@ -10,8 +11,6 @@ use Rattle.trees.specs.Files.{escape}
 use Rattle.entering.specs.Entries.{parts, enter_all}
 use Rattle.entering.specs.Levels.{leaf_bytes, Level, Placed, Single}
 use Rattle.entering.specs.declared.answers.Full.{Full}
-use Rattle.entering.specs.declared.answers.EnteredMember.{EnteredMember}
-use Rattle.entering.specs.declared.answers.EnteredValue.{EnteredValue}
 
 -- a table has only grown
 pub record Extends (T T' : Table) : Type 0 where
@@ -53,26 +52,26 @@ abbrev pub EntersMembers : List Member → Table → Result ℕ Full → Table �
 EntersMembers l T r T' = (ms : Members) → Stands T l ms → EntersEach (binding ms ∷ []) (binding ms) T r T'
 
 -- a value with its parts, and what stands behind its lines
-abbrev pub ValueEntered : Value → List ℕ → Table → Result EnteredValue Full → Table → Type 0
-ValueEntered v after T (Ok e) T' = (enter_all (parts v) T ≡ some T') × (nth T' e.number ≡ some v) × (e.rest.now ≡ after)
+abbrev pub ValueEntered : Value → List ℕ → Table → Result (ℕ × Bor (List ℕ)) Full → Table → Type 0
+ValueEntered v after T (Ok e) T' = (enter_all (parts v) T ≡ some T') × (nth T' e.0 ≡ some v) × (e.1.now ≡ after)
 ValueEntered v after T (Err e) T' = (enter_all (parts v) T ≡ none) × Extends T T'
 
 -- a value at the end of the first line
-abbrev pub EntersLine : List ℕ → Table → Result EnteredValue Full → Table → Type 0
+abbrev pub EntersLine : List ℕ → Table → Result (ℕ × Bor (List ℕ)) Full → Table → Type 0
 EntersLine bytes T r T' = (c : Leaf) (after : List ℕ) → bytes ≡ leaf_bytes c ++ 10 ∷ after → ValueEntered (leaf_value c) after T r T'
 
 -- a value at a path
-abbrev pub EntersValue : List ℕ → List ℕ → ℕ → Table → Result EnteredValue Full → Table → Type 0
+abbrev pub EntersValue : List ℕ → List ℕ → ℕ → Table → Result (ℕ × Bor (List ℕ)) Full → Table → Type 0
 EntersValue path bytes levels T r T' = (v : Value) (after : List ℕ) → Placed path bytes levels v after → ValueEntered v after T r T'
 
 -- a binding by the lines of its members
-abbrev pub EntersLevel : List ℕ → List ℕ → ℕ → Table → Result EnteredValue Full → Table → Type 0
+abbrev pub EntersLevel : List ℕ → List ℕ → ℕ → Table → Result (ℕ × Bor (List ℕ)) Full → Table → Type 0
 EntersLevel prefix bytes levels T r T' = (ms : Members) (after : List ℕ) → Level prefix bytes levels ms after → ValueEntered (binding ms) after T r T'
 
 -- a member with its parts, and what stands behind its lines
-abbrev pub MemberEntered : Name → Value → List ℕ → Table → Result EnteredMember Full → Table → Type 0
-MemberEntered n v after T (Ok e) T' = (enter_all (text n ∷ parts v) T ≡ some T') × (nth T' e.member.name ≡ some (text n)) × (nth T' e.member.value ≡ some v) × (e.rest.now ≡ after)
+abbrev pub MemberEntered : Name → Value → List ℕ → Table → Result (Member × Bor (List ℕ)) Full → Table → Type 0
+MemberEntered n v after T (Ok e) T' = (enter_all (text n ∷ parts v) T ≡ some T') × (nth T' e.0.name ≡ some (text n)) × (nth T' e.0.value ≡ some v) × (e.1.now ≡ after)
 MemberEntered n v after T (Err e) T' = (enter_all (text n ∷ parts v) T ≡ none) × Extends T T'
 
-abbrev pub EntersMember : List ℕ → List ℕ → ℕ → Table → Result EnteredMember Full → Table → Type 0
+abbrev pub EntersMember : List ℕ → List ℕ → ℕ → Table → Result (Member × Bor (List ℕ)) Full → Table → Type 0
 EntersMember prefix bytes levels T r T' = (n : Name) (v : Value) (after : List ℕ) → Single prefix bytes levels n v after → MemberEntered n v after T r T'

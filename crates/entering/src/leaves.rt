@@ -1,38 +1,29 @@
 // Entering what stands at the end of a line: kind, tab and content.
-ghost use Rattle.std.specs.Prelude.{◌≡◌, ◌≤◌, length, take};
+ghost use Rattle.std.specs.Prelude.{◌≡◌};
 ghost use Rattle.std.proofs.Math.Option.{some};
 ghost use Rattle.values.specs.Memory.{values};
 ghost use Rattle.trees.specs.Files.{unescape as meaning};
 ghost use Rattle.entering.specs.Levels.{HasContent, HasLeaf, HasLine};
 ghost use Rattle.entering.specs.Steps.{EntersContent, EntersLeaf, EntersLine};
 
-use crate::answers::{EnteredValue, Full};
+use crate::answers::Full;
 use crate::singles::{enter_binding, enter_text};
-use trees::{Front, cut, next_byte};
-use values::{Number, Table};
+use arrayvec::ArrayVec;
+use trees::{cut, next_byte};
+use values::{LONGEST_TEXT, Number, Table};
 
-// The most bytes that a text has.
-const MAX_TEXT: usize = 1024;
-
-// Writes the text of a content without its escapes, and answers how many bytes it has.
-fn unescape(content: &[u8], text: &mut [u8]) -> usize
-    requires { HasContent content.now (length text.old) }
-    ensures within { result ≤ length text.new }
-    ensures written { some (take result text.new) ≡ meaning content.now }
+// The text of a content, without its escapes.
+fn unescape(content: &[u8]) -> ArrayVec<u8, LONGEST_TEXT>
+    requires { HasContent content.now 1024 }
+    ensures { some result.items ≡ meaning content.now }
 {
+    let mut text = ArrayVec::new();
     let mut left = content;
-    let mut len = 0;
-    loop {
-        match next_byte(left) {
-            Front::End => return len,
-            Front::Byte(byte, rest) => {
-                text[len] = byte;
-                len += 1;
-                left = rest;
-            }
-            Front::Wrong => unreachable(),
-        }
+    while let Ok(Some((byte, rest))) = next_byte(left) {
+        text.push(byte);
+        left = rest;
     }
+    text
 }
 
 // Enters the text of a content.
@@ -40,9 +31,7 @@ fn enter_content(table: &mut Table, content: &[u8]) -> Result<Number, Full>
     requires { HasContent content.now 1024 }
     ensures { EntersContent content.now (values table.old) result (values table.new) }
 {
-    let mut text = [0; MAX_TEXT];
-    let len = unescape(content, &mut text);
-    enter_text(table, &text[..len])
+    enter_text(table, &unescape(content))
 }
 
 // Enters a leaf: a text, a truth value, or the empty binding.
@@ -50,16 +39,16 @@ fn enter_leaf(table: &mut Table, leaf: &[u8]) -> Result<Number, Full>
     requires { HasLeaf leaf.now }
     ensures { EntersLeaf leaf.now (values table.old) result (values table.new) }
 {
-    match leaf[0] {
-        b't' => enter_content(table, &leaf[2..]),
-        b'b' => Ok(table.truth(leaf[2] == b'T')),
-        b'e' => enter_binding(table, &[]),
+    match leaf {
+        [b't', _, content @ ..] => enter_content(table, content),
+        [b'b', _, first, ..] => Ok(table.truth(*first == b'T')),
+        [b'e', ..] => enter_binding(table, &[]),
         _ => unreachable(),
     }
 }
 
-// Enters the leaf that the bytes begin with, up to the line feed.
-pub(crate) fn enter_line<'a>(table: &mut Table, bytes: &'a [u8]) -> Result<EnteredValue<'a>, Full>
+// Enters the leaf that the bytes begin with, up to the line feed, and answers its number and the bytes behind the line.
+pub(crate) fn enter_line<'a>(table: &mut Table, bytes: &'a [u8]) -> Result<(Number, &'a [u8]), Full>
     requires { HasLine bytes.now }
     ensures { EntersLine bytes.now (values table.old) result (values table.new) }
 {
@@ -68,5 +57,5 @@ pub(crate) fn enter_line<'a>(table: &mut Table, bytes: &'a [u8]) -> Result<Enter
         unreachable()
     };
     let number = enter_leaf(table, lines.first)?;
-    Ok(EnteredValue { number, rest })
+    Ok((number, rest))
 }

@@ -1,27 +1,22 @@
 // Entering members from their lines. All the paths of a binding's members begin with the same bytes, the prefix.
+// Each step answers what it entered and the bytes behind its lines. The bytes and the levels are others at each call, so no struct
+// holds them with the table.
 ghost use Rattle.std.specs.Prelude.{◌≡◌, length, Decides};
 ghost use Rattle.values.specs.Memory.{values};
 ghost use Rattle.entering.specs.Levels.{front_name, GoesOn, HasLevel, HasValue, HasMember};
 ghost use Rattle.entering.specs.Steps.{EntersLevel, EntersValue, EntersMember};
 
-use crate::answers::{EnteredMember, EnteredValue, Full};
+use crate::answers::Full;
 use crate::leaves::enter_line;
 use crate::singles::{enter_binding, enter_text};
-use values::{Member, Table, is_name_byte};
+use arrayvec::ArrayVec;
+use values::{MOST_MEMBERS, Member, Number, Table, is_name_byte};
 
-// The most members that a binding has.
-const MAX_MEMBERS: usize = 64;
-
-// How many bytes of a name the bytes begin with.
+// How many bytes of a name the bytes begin with, by the name that they are; `scanner` has the same chain as the grammar counts them.
 fn name_len(bytes: &[u8]) -> usize
     ensures { result ≡ length (front_name bytes.now) }
 {
-    for (i, b) in bytes.iter().enumerate() {
-        if !is_name_byte(*b) {
-            return i;
-        }
-    }
-    bytes.len()
+    bytes.iter().take_while(|b| is_name_byte(**b)).count()
 }
 
 // Whether there is one more line under a prefix.
@@ -38,7 +33,7 @@ fn enter_value<'a>(
     path: &[u8],
     bytes: &'a [u8],
     levels: usize,
-) -> Result<EnteredValue<'a>, Full>
+) -> Result<(Number, &'a [u8]), Full>
     requires { HasValue path.now bytes.now levels }
     ensures { EntersValue path.now bytes.now levels (values table.old) result (values table.new) }
 {
@@ -56,22 +51,15 @@ fn enter_member<'a>(
     prefix: &[u8],
     bytes: &'a [u8],
     levels: usize,
-) -> Result<EnteredMember<'a>, Full>
+) -> Result<(Member, &'a [u8]), Full>
     requires { HasMember prefix.now bytes.now levels }
     ensures { EntersMember prefix.now bytes.now levels (values table.old) result (values table.new) }
 {
     let start = prefix.len();
     let end = start + name_len(&bytes[start..]);
     let name = enter_text(table, &bytes[start..end])?;
-    let entered = enter_value(table, &bytes[..end], bytes, levels)?;
-    let member = Member {
-        name,
-        value: entered.number,
-    };
-    Ok(EnteredMember {
-        member,
-        rest: entered.rest,
-    })
+    let (value, rest) = enter_value(table, &bytes[..end], bytes, levels)?;
+    Ok((Member { name, value }, rest))
 }
 
 // Enters all members under a prefix, and then their binding, which has at most so many levels.
@@ -81,19 +69,17 @@ pub(crate) fn enter_members<'a>(
     prefix: &[u8],
     bytes: &'a [u8],
     levels: usize,
-) -> Result<EnteredValue<'a>, Full>
+) -> Result<(Number, &'a [u8]), Full>
     requires { HasLevel prefix.now bytes.now levels }
     ensures { EntersLevel prefix.now bytes.now levels (values table.old) result (values table.new) }
 {
-    let mut members = [Member { name: 0, value: 0 }; MAX_MEMBERS];
-    let mut count = 0;
+    let mut members = ArrayVec::<Member, MOST_MEMBERS>::new();
     let mut left = bytes;
     while goes_on(left, prefix) {
-        let entered = enter_member(table, prefix, left, levels)?;
-        members[count] = entered.member;
-        count += 1;
-        left = entered.rest;
+        let (member, rest) = enter_member(table, prefix, left, levels)?;
+        members.push(member);
+        left = rest;
     }
-    let number = enter_binding(table, &members[..count])?;
-    Ok(EnteredValue { number, rest: left })
+    let number = enter_binding(table, &members)?;
+    Ok((number, left))
 }

@@ -12,10 +12,7 @@ pub(crate) fn enter_text(table: &mut Table, bytes: &[u8]) -> Result<Number, Full
     requires { length bytes.now ≤ 1024 }
     ensures { EntersEach (Value.text bytes.now ∷ []) (Value.text bytes.now) (values table.old) result (values table.new) }
 {
-    match table.enter_text(bytes) {
-        Ok(number) => Ok(number),
-        Err(_) => Err(Full),
-    }
+    table.enter_text(bytes).map_err(|_| Full)
 }
 
 // Enters a binding by its members.
@@ -23,8 +20,5 @@ pub(crate) fn enter_binding(table: &mut Table, members: &[Member]) -> Result<Num
     requires { HasMembers (values table.old) members.now }
     ensures { EntersMembers members.now (values table.old) result (values table.new) }
 {
-    match table.enter_binding(members) {
-        Ok(number) => Ok(number),
-        Err(_) => Err(Full),
-    }
+    table.enter_binding(members).map_err(|_| Full)
 }

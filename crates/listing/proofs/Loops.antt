@@ -4,10 +4,9 @@ use Rattle.std.specs.List.{flat_map as flat}
 use Rattle.std.proofs.lemmas.List.{take_more, take_all, take-append-drop, drop_more}
 use Rattle.values.specs.Values.{Name}
 use Rattle.trees.specs.Files.{escape, joined}
-use Rattle.listing.specs.declared.output.Output.{Output}
-use Rattle.listing.specs.Puts.{Grows, Lacks}
+use Rattle.listing.specs.Puts.{Adds}
 use Rattle.listing.specs.Pieces.{steps}
-use Rattle.listing.proofs.Growing.{both, front_lacks, back_lacks}
+use Rattle.listing.proofs.Growing.{front_lacks, back_lacks}
 
 pub flat_append : {X : Type 0} (f : X → List ℕ) (xs ys : List X) → flat f (xs ++ ys) ≡ flat f xs ++ flat f ys
 flat_append f [] ys = refl
@@ -25,16 +24,17 @@ module _ {X : Type 0} (f : X → List ℕ) (xs : List X) where
       ap (λ l. flat f (take i xs) ++ flat f l) (sym (drop_more xs i d h))
       ∙ sym (flat_append f (take i xs) (drop i xs)) ∙ ap (flat f) (take-append-drop i xs)
 
-  pub more : {s t u : Output} (i : ℕ) (d : X) → i < length xs → Grows s (flat f (take i xs)) t → Grows t (f (get_or xs i d)) u → Grows s (flat f (take (i + 1) xs)) u
-  more {s} {t} {u} i d h a b = subst (λ l. Grows s l u) (flat_more i d h) (both (flat f (take i xs)) (f (get_or xs i d)) a b)
+  module _ {S : Type 0} {room : S → ℕ} {grows : S → List ℕ → S → Type 0} (adds : Adds room grows) where
+    pub more : {s t u : S} (i : ℕ) (d : X) → i < length xs → grows s (flat f (take i xs)) t → grows t (f (get_or xs i d)) u → grows s (flat f (take (i + 1) xs)) u
+    more {s} {t} {u} i d h a b = subst (λ l. grows s l u) (flat_more i d h) (adds.both s t u (flat f (take i xs)) (f (get_or xs i d)) a b)
 
-  pub lacks : {s t u : Output} (i : ℕ) (d : X) → i < length xs → Grows s (flat f (take i xs)) t → Lacks t (f (get_or xs i d)) u → Lacks s (flat f xs) u
-  lacks {s} {t} {u} i d h a b =
-      subst (λ l. Lacks s l u) (flat_parts i d h)
-      (back_lacks (flat f (take i xs)) (f (get_or xs i d) ++ flat f (drop (i + 1) xs)) a (front_lacks (f (get_or xs i d)) (flat f (drop (i + 1) xs)) b))
+    pub lacks : {s t : S} (i : ℕ) (d : X) → i < length xs → grows s (flat f (take i xs)) t → room t < length (f (get_or xs i d)) → room s < length (flat f xs)
+    lacks {s} {t} i d h a b =
+        subst (λ l. room s < length l) (flat_parts i d h)
+        (back_lacks adds {s = s} {t = t} (flat f (take i xs)) (f (get_or xs i d) ++ flat f (drop (i + 1) xs)) a (front_lacks adds {s = t} (f (get_or xs i d)) (flat f (drop (i + 1) xs)) b))
 
-  pub all : {s t : Output} (i : ℕ) → length xs ≤ i → Grows s (flat f (take i xs)) t → Grows s (flat f xs) t
-  all {s} {t} i h a = subst (λ l. Grows s (flat f l) t) (take_all i xs h) a
+    pub all : {s t : S} (i : ℕ) → length xs ≤ i → grows s (flat f (take i xs)) t → grows s (flat f xs) t
+    all {s} {t} i h a = subst (λ l. grows s (flat f l) t) (take_all i xs h) a
 
 -- a text byte by byte
 pub escape_flat : (xs : List ℕ) → flat (λ b. escape (b ∷ [])) xs ≡ escape xs

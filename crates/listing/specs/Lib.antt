@@ -1,4 +1,5 @@
 pub mod Lists
 pub mod Puts
-pub mod Passes
+pub mod Outputs
+pub mod Laws
 pub mod Pieces

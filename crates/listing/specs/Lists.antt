@@ -1,5 +1,5 @@
 -- What listing a value into a lent buffer answers. Assumes nothing.
-use Rattle.std.specs.Prelude.{◌≡◌, ℕ, List, ◌++◌, length, drop, Ok, Err, MatchBool, Result, nat_le}
+use Rattle.std.specs.Prelude.{◌≡◌, ℕ, List, ◌++◌, length, drop, Some, None, Ok, Err, MatchBool, Option as Answer, Result, nat_le}
 use Rattle.std.proofs.Math.Option.{Option, none, some}
 use Rattle.values.specs.Values.{Value}
 use Rattle.trees.specs.Files.{listing}
@@ -7,9 +7,9 @@ use Rattle.listing.specs.declared.answers.Unlisted.{Unlisted}
 use Rattle.listing.specs.declared.answers.Unlisted.TheVariants.{UnknownNumber, ShortBuffer}
 
 -- the number of every refusal; an unknown number of the table is a mistake of the caller's, and has none
-abbrev pub number : Unlisted → ℕ
-number UnknownNumber = 0
-number ShortBuffer = 32
+abbrev pub number : Unlisted → Answer ℕ
+number UnknownNumber = None
+number ShortBuffer = Some 32
 
 -- nothing is written
 abbrev pub Refuses : Unlisted → List ℕ → Result ℕ Unlisted → List ℕ → Type 0

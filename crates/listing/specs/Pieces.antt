@@ -1,17 +1,12 @@
 -- The pieces that a line is put together from. Assumes nothing.
-use Rattle.std.specs.Prelude.{ℕ, List, [], ◌∷◌, ◌++◌, map, take}
+use Rattle.std.specs.Prelude.{ℕ, List, [], ◌∷◌, ◌++◌, map}
 use Rattle.values.specs.Values.{Name, Value}
 use Rattle.values.specs.Table.{spelt, under}
 use Rattle.trees.specs.Lines.{Leaf, text_leaf, truth_leaf, empty_leaf, Line, line}
 use Rattle.trees.specs.Files.{kind_mark, content}
-use Rattle.listing.specs.declared.path.Path.{Path}
 use Rattle.values.specs.declared.parts.Member.{Member}
 use Rattle.values.specs.declared.parts.Content.{Content}
 use Rattle.values.specs.declared.parts.Content.TheVariants.{Truth, Text, Binding}
-
--- the numbers of a path's names
-abbrev pub numbers : Path → List ℕ
-numbers p = take p.depth p.names
 
 -- the names that numbers stand for
 abbrev pub spelling : List Value → ℕ → Name

@@ -4,9 +4,11 @@
 mod answers;
 mod calls;
 mod output;
-mod path;
 mod pieces;
+mod puts;
+mod sink;
 mod walk;
 
 pub use crate::answers::Unlisted;
 pub use crate::calls::list;
+pub use crate::pieces::escaped;

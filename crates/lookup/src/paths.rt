@@ -6,24 +6,12 @@ ghost use Rattle.values.specs.Memory.{values};
 ghost use Rattle.trees.specs.Files.{split};
 ghost use Rattle.lookup.specs.Finds.{looked};
 
-use trees::cut;
 use values::{Number, Table};
 
 // The number of what stands at a path, names parted by `/`, in the value under a number; none where nothing stands there.
 pub fn find(table: &Table, root: Number, path: &[u8]) -> Option<Number>
     ensures { Numbered (values table.now) (looked (nth (values table.now) root) (split 47 path.now)) result }
 {
-    let mut at = root;
-    let mut left = path;
-    loop {
-        let names = cut(left, b'/');
-        let Some(next) = table.member(at, names.first) else {
-            return None;
-        };
-        let Some(rest) = names.rest else {
-            return Some(next);
-        };
-        at = next;
-        left = rest;
-    }
+    path.split(|b| *b == b'/')
+        .try_fold(root, |at, name| table.member(at, name))
 }

@@ -1,29 +1,34 @@
 -- What an order says of keys that climb. Assumes nothing.
-use Rattle.std.proofs.Common.{◌≡◌, ℕ, ◌+◌, ◌-◌, ◌<◌, ◌≤◌, ◌⊎◌, List, length, get_or, Ordering, Less, Equal, Greater, sym, ap, ◌∙◌, inl, inr, ⊎_elim, arith}
-use Rattle.std.specs.Cmp.{IsTotalOrder, alike_right}
-use Rattle.std.specs.Ordering.{ordering_reverse}
+use Rattle.std.proofs.Common.{◌≡◌, ℕ, ◌+◌, ◌-◌, ◌<◌, ◌≤◌, ◌⊎◌, true, false, Option, List, length, get_or, Ordering, Less, Equal, Greater, refl, sym, ap, ◌∙◌, inl, inr, ⊎_elim, arith}
+use Rattle.std.specs.Cmp.{Agrees, IsTotalOrder}
+use Rattle.std.proofs.lemmas.Bool.{false≢true}
+use Rattle.std.specs.List.Sorted.{IsPartitionedBy, IsPartitionPoint}
+use Rattle.std.specs.Ordering.{is_lt, is_some_and, ordering_reverse, partial_lt}
 use Rattle.std.proofs.str.Laws.{order}
-use Rattle.std.proofs.lemmas.List.{get_or_read}
 use Rattle.ordered.specs.Climbing.{Climbs, LessTo, MoreFrom, Stands}
 
-module _ {K : Type 0} {R : K → K → Ordering} (o : IsTotalOrder R) (xs : List K) (up : Climbs R xs) (k x : K) (m : ℕ) (within : m < length xs) (read : x ≡ get_or xs m x) where
-  at_m : (d : K) → get_or xs m d ≡ x
-  at_m d = sym (get_or_read xs m x within read d)
+pub less : (r : Ordering) → is_lt r ≡ true → r ≡ Less
+less Less h = refl
+less Equal h = cc
+less Greater h = cc
 
-  pub less_to : Less ≡ R x k → LessTo R xs k (m + 1)
-  less_to r j d h =
-      let here : R (get_or xs m d) k ≡ Less = ap (λ y. R y k) (at_m d) ∙ sym r in
-      ⊎_elim (λ lt. o.trans (get_or xs j d) (get_or xs m d) k (up j m d lt within) here)
-      (λ ge. let e : m ≡ j = omega arith in ap (λ i. R (get_or xs i d) k) (sym e) ∙ here)
-      (order j m)
+-- the keys that are less than k stand before the others, so their number is the place of k
+module _ {K : Type 0} {R : K → K → Ordering} (o : IsTotalOrder R) {C : K → K → Option Ordering} (agrees : Agrees C R) (xs : List K) (up : Climbs R xs) (k : K) where
+  tests : (y : K) → partial_lt C y k ≡ is_lt (R y k)
+  tests y = ap (is_some_and is_lt) (agrees y k)
 
-  pub more_from : Greater ≡ R x k → MoreFrom R xs k m
-  more_from r j d h lt =
-      let here : R (get_or xs m d) k ≡ Greater = ap (λ y. R y k) (at_m d) ∙ sym r in
-      let back : R k (get_or xs m d) ≡ Less = o.antisymm k (get_or xs m d) ∙ ap ordering_reverse here in
-      ⊎_elim (λ l. o.antisymm (get_or xs j d) k ∙ ap ordering_reverse (o.trans k (get_or xs m d) (get_or xs j d) back (up m j d l lt)))
-      (λ ge. let e : m ≡ j = omega arith in ap (λ i. R (get_or xs i d) k) (sym e) ∙ here)
-      (order m j)
+  pub parted : IsPartitionedBy (λ y. partial_lt C y k) xs
+  parted i j d le lt h =
+      ⊎_elim
+      (λ l. tests (get_or xs i d) ∙ ap is_lt (o.trans (get_or xs i d) (get_or xs j d) k (up i j d l lt) (less (R (get_or xs j d) k) (sym (tests (get_or xs j d)) ∙ h))))
+      (λ ge. let e : j ≡ i = omega arith in ap (λ m. partial_lt C (get_or xs m d) k) (sym e) ∙ h)
+      (order i j)
+
+  pub stands_from : (i : ℕ) → IsPartitionPoint (λ y. partial_lt C y k ≡ true) (λ y. partial_lt C y k ≡ false) xs i → Stands R xs k i
+  stands_from i at = (
+    λ j d h. less (R (get_or xs j d) k) (sym (tests (get_or xs j d)) ∙ at.0 j d (omega arith) h),
+    λ j d h lt less. false≢true (sym (at.1 j d h lt) ∙ tests (get_or xs j d) ∙ ap is_lt less),
+  )
 
 three : (a i : ℕ) → (a < i) ⊎ ((a ≡ i) ⊎ (i < a))
 three a i = ⊎_elim inl (λ ge. ⊎_elim (λ lt. inr (inr lt)) (λ le. inr (inl (omega arith))) (order i a)) (order a i)
@@ -54,15 +59,3 @@ module _ {K : Type 0} {R : K → K → Ordering} (o : IsTotalOrder R) (xs ys : L
       (λ ae. let bh : i < b = omega arith in both (ap (λ j. get_or ys j d) ae ∙ p.here d) (p.high b d bh) (o.antisymm k (get_or xs (b - 1) d) ∙ ap ordering_reverse (more (b - 1) d (omega arith) (omega arith))))
       (λ ah. let bh : i < b = omega arith in both (p.high a d ah) (p.high b d bh) (up (a - 1) (b - 1) d (omega arith) (omega arith))))
       (three a i)
-
--- the keys before one that is equal to k are less than k, and those from it on are not
-pub stands_at : {K : Type 0} {R : K → K → Ordering} (o : IsTotalOrder R) (xs : List K) → Climbs R xs → (k : K) (m : ℕ) → m < length xs → ((d : K) → R (get_or xs m d) k ≡ Equal) → Stands R xs k m
-stands_at {R = R} o xs up k m within here = (
-  λ j d h. sym (alike_right o (get_or xs m d) k (get_or xs j d) (here d)) ∙ up j m d h within,
-  λ j d h lt less. ⊎_elim
-      (λ l. let e : R (get_or xs m d) (get_or xs j d) ≡ Less = up m j d l lt in
-      let f : R (get_or xs m d) (get_or xs j d) ≡ Greater = o.congr (get_or xs m d) k (get_or xs j d) (here d) ∙ o.antisymm k (get_or xs j d) ∙ ap ordering_reverse less in
-      let z : ◌≡◌ {A = ℕ} 0 1 = cc in omega arith)
-      (λ ge. let e : m ≡ j = omega arith in let f : R (get_or xs j d) k ≡ Equal = ap (λ i. R (get_or xs i d) k) (sym e) ∙ here d in let z : ◌≡◌ {A = ℕ} 0 1 = cc in omega arith)
-      (order m j),
-)

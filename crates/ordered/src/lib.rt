@@ -6,24 +6,12 @@ ghost use Rattle.std.specs.Cmp.{IsTotalOrder};
 ghost use Rattle.ordered.specs.Climbing.{Climbs, Found, Stands, Inserts, Room};
 ghost use Rattle.ordered.specs.Names.{name_order};
 
-use std::cmp::Ordering;
-
 // Finds a key by halving: Ok with the place where it stands, or Err with the place where it belongs.
 pub fn find<K: Ord>(keys: &[K], key: &K) -> Result<usize, usize>
     ensures bound { MatchResult result (λ i. i < length keys.now) (λ i. i ≤ length keys.now) }
     ensures found { (o : IsTotalOrder K.Ord.cmp) → Climbs K.Ord.cmp keys.now → Found K.Ord.cmp keys.now key.now result }
 {
-    let mut low = 0;
-    let mut high = keys.len();
-    while low < high {
-        let middle = low + (high - low) / 2;
-        match keys[middle].cmp(key) {
-            Ordering::Less => low = middle + 1,
-            Ordering::Equal => return Ok(middle),
-            Ordering::Greater => high = middle,
-        }
-    }
-    Err(low)
+    keys.binary_search(key)
 }
 
 // The place of the first key that is not less than the given one: so many are less.
@@ -31,10 +19,7 @@ pub fn place<K: Ord>(keys: &[K], key: &K) -> usize
     ensures bound { result ≤ length keys.now }
     ensures stands { (o : IsTotalOrder K.Ord.cmp) → Climbs K.Ord.cmp keys.now → Stands K.Ord.cmp keys.now key.now result }
 {
-    match find(keys, key) {
-        Ok(i) => i,
-        Err(i) => i,
-    }
+    keys.partition_point(|k| k < key)
 }
 
 // Puts a key where it belongs, and says where. None where it stands there already, or where the memory taken is full.
@@ -46,16 +31,16 @@ pub fn insert<K: Ord + Drop>(keys: &mut Vec<K>, key: K) -> Option<usize>
     if keys.len() >= keys.capacity() {
         return None;
     }
-    match find(keys.as_slice(), &key) {
-        Ok(_) => None,
-        Err(i) => {
-            let _ = keys.insert(i, key);
-            Some(i)
-        }
-    }
+    let Err(i) = find(keys, &key) else {
+        return None;
+    };
+    let _ = keys.insert(i, key);
+    Some(i)
 }
 
 // The same in a lent slice, of which the first `len` are in use; None also where all are in use.
+// It stays beside `insert`, since the memory is the caller's: a lent slice has a length beside it and moves its keys by turning them,
+// and a trait over both would be longer than the two lines that differ.
 pub fn insert_lent<K: Ord + Copy>(keys: &mut [K], len: usize, key: K) -> Option<usize>
     ensures inserted { (o : IsTotalOrder K.Ord.cmp) → Climbs K.Ord.cmp (take len keys.old) → Inserts K.Ord.cmp (Room len (length keys.old)) (take len keys.old) key result (take (len + (if is_some result then 1 else 0)) keys.new) }
     ensures rest { drop (len + 1) keys.new ≡ drop (len + 1) keys.old }
@@ -63,17 +48,15 @@ pub fn insert_lent<K: Ord + Copy>(keys: &mut [K], len: usize, key: K) -> Option<
     if len >= keys.len() {
         return None;
     }
-    match find(&keys[0..len], &key) {
-        Ok(_) => None,
-        Err(i) => {
-            keys[len] = key;
-            keys[i..len + 1].rotate_right(1);
-            Some(i)
-        }
-    }
+    let Err(i) = find(&keys[..len], &key) else {
+        return None;
+    };
+    keys[len] = key;
+    keys[i..=len].rotate_right(1);
+    Some(i)
 }
 
-// Finds a name among names that are lent.
+// Finds a name among names that are lent. It stays beside `find`, since it says which order that is, and asks for no proof that it is total.
 pub fn find_name<'a>(names: &[&'a [u8]], name: &&'a [u8]) -> Result<usize, usize>
     ensures { Climbs name_order names.now → Found name_order names.now name.now result }
 {

@@ -26,36 +26,21 @@ pub fn token_len(token: Token<'_>) -> usize
 pub fn is_sign(token: Token<'_>, sign: u8) -> bool
     ensures { a_sign sign (meaning token.entry) ≡ if_so result }
 {
-    match token {
-        Token::Word(_) => false,
-        Token::Text(_) => false,
-        Token::Same => false,
-        Token::Sign(b) => b == sign,
-    }
+    token == Token::Sign(sign)
 }
 
 // Whether a token is `==`.
 pub fn is_same(token: Token<'_>) -> bool
     ensures { a_same (meaning token.entry) ≡ if_so result }
 {
-    match token {
-        Token::Word(_) => false,
-        Token::Text(_) => false,
-        Token::Same => true,
-        Token::Sign(_) => false,
-    }
+    token == Token::Same
 }
 
 // Whether a token is this word.
 pub fn is_word(token: Token<'_>, word: &[u8]) -> bool
     ensures { the_word word.now (meaning token.entry) ≡ if_so result }
 {
-    match token {
-        Token::Word(w) => same(w, word),
-        Token::Text(_) => false,
-        Token::Same => false,
-        Token::Sign(_) => false,
-    }
+    token == Token::Word(word)
 }
 
 // How a token leads on in a term, if it does.
@@ -63,18 +48,14 @@ pub fn way(token: Token<'_>) -> Option<Way>
     ensures { a_way (meaning token.entry) ≡ way_of result }
 {
     match token {
-        Token::Word(_) => None,
-        Token::Text(_) => None,
-        Token::Same => None,
-        Token::Sign(b) => match b {
-            b'/' => Some(Way::Pick),
-            b'!' => Some(Way::Has),
-            _ => None,
-        },
+        Token::Sign(b'/') => Some(Way::Pick),
+        Token::Sign(b'!') => Some(Way::Has),
+        _ => None,
     }
 }
 
-// Whether a word may not be the name of a function or parameter.
+// Whether a word may not be the name of a function or parameter. A `match` on the words was tried, here and in `word_start`: it tests
+// them byte by byte, and the proof of 8 of its ways out, and of the 9 bytes of `_run_tool`, did not close.
 pub fn is_reserved(word: &[u8]) -> bool
     ensures { result ≡ reserved word.now }
 {
@@ -92,21 +73,18 @@ fn word_start(word: &[u8]) -> Option<Start<'_>>
     ensures { start_of_word word.now ≡ start_of result }
 {
     if same(word, b"TRUE") {
-        return Some(Start::Truth(true));
+        Some(Start::Truth(true))
+    } else if same(word, b"FALSE") {
+        Some(Start::Truth(false))
+    } else if same(word, b".") {
+        Some(Start::Dot)
+    } else if same(word, b"_run_tool") {
+        Some(Start::Tool)
+    } else if is_reserved(word) {
+        None
+    } else {
+        Some(Start::Name(word))
     }
-    if same(word, b"FALSE") {
-        return Some(Start::Truth(false));
-    }
-    if same(word, b".") {
-        return Some(Start::Dot);
-    }
-    if same(word, b"_run_tool") {
-        return Some(Start::Tool);
-    }
-    if is_reserved(word) {
-        return None;
-    }
-    Some(Start::Name(word))
 }
 
 // What atom a token begins, if it does.
@@ -116,12 +94,9 @@ pub fn start(token: Token<'_>) -> Option<Start<'_>>
     match token {
         Token::Word(word) => word_start(word),
         Token::Text(text) => Some(Start::Text(text)),
-        Token::Same => None,
-        Token::Sign(b) => match b {
-            b'(' => Some(Start::Open),
-            b'[' => Some(Start::Bracket),
-            _ => None,
-        },
+        Token::Sign(b'(') => Some(Start::Open),
+        Token::Sign(b'[') => Some(Start::Bracket),
+        _ => None,
     }
 }
 
@@ -129,8 +104,5 @@ pub fn start(token: Token<'_>) -> Option<Start<'_>>
 pub fn begins(token: Token<'_>) -> bool
     ensures { a_beginning (meaning token.entry) ≡ if_so result }
 {
-    match start(token) {
-        Some(_) => true,
-        None => is_word(token, b"if"),
-    }
+    start(token).is_some() || is_word(token, b"if")
 }

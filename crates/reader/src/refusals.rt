@@ -6,19 +6,19 @@ ghost use Rattle.reader.specs.Refusals.{rule_number};
 #[derive(Clone, Copy, PartialEq, Eq, Debug)]
 pub enum Rule {
     // It has over 8,192 bytes.
-    TooLong,
+    TooLong = 1,
     // No token stands there.
-    NoToken,
+    NoToken = 2,
     // The grammar does not have the token there.
-    NotInGrammar,
+    NotInGrammar = 3,
     // The token passes a limit.
-    PastLimit,
+    PastLimit = 4,
     // The name is reserved, unfit, or taken.
-    BadName,
+    BadName = 5,
     // There is no such function, parameter or tool, or no `main`.
-    Unknown,
+    Unknown = 6,
     // A call has another number of arguments than the function has parameters, or `main` has parameters.
-    WrongCount,
+    WrongCount = 7,
 }
 
 impl Rule {
@@ -26,19 +26,11 @@ impl Rule {
     pub fn number(self) -> u8
         ensures { result ≡ rule_number self }
     {
-        match self {
-            Rule::TooLong => 1,
-            Rule::NoToken => 2,
-            Rule::NotInGrammar => 3,
-            Rule::PastLimit => 4,
-            Rule::BadName => 5,
-            Rule::Unknown => 6,
-            Rule::WrongCount => 7,
-        }
+        self as u8
     }
 }
 
-// A refusal: the rule, and the place in the model.
+// A refusal: the rule, and the place in the model. Tree files have their own of two fields: one for both would need a crate below both.
 #[derive(Clone, Copy, PartialEq, Eq, Debug)]
 pub struct Refusal {
     pub rule: Rule,

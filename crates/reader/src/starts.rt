@@ -1,7 +1,7 @@
 // What an atom may begin with, and how a term goes on.
 
 // The first token of an atom.
-#[derive(Clone, Copy)]
+#[derive(Clone, Copy, PartialEq, Eq, Debug)]
 pub enum Start<'a> {
     // A quoted text, as it is written.
     Text(&'a [u8]),
@@ -20,7 +20,7 @@ pub enum Start<'a> {
 }
 
 // What follows an atom in a term.
-#[derive(Clone, Copy)]
+#[derive(Clone, Copy, PartialEq, Eq, Debug)]
 pub enum Way {
     // `/`: a member is taken.
     Pick,

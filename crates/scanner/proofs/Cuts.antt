@@ -1,24 +1,28 @@
 -- How a model's bytes are cut, piece by piece. Assumes nothing.
-use Rattle.std.proofs.Common.{◌≡◌, ℕ, zero, suc, ◌+◌, ◌-◌, ◌<◌, ◌≤◌, Bool, true, false, cond, ◌&&◌, eqb, leb, List, [], ◌∷◌, length, get_or, take, drop, sym, refl, ap, ◌∙◌, subst, arith, eqb-true, le-leb}
-use Rattle.std.proofs.lemmas.List.{drop_more, drop_all, drop-drop, take_rest, length-drop}
-use Rattle.scanner.specs.declared.tokens.Front.{Front}
-use Rattle.scanner.specs.declared.tokens.Front.TheVariants as front_is
-use Rattle.values.specs.Limits.{name_byte}
-use Rattle.scanner.specs.Views.{Begins, Fronts, meaning, from}
-use Rattle.grammar.specs.Tokens.{front, blank, sign_byte, Token, word, same, sign, closed, Found, found, nothing, found_text, next_is, token, end, no_token, next, placed, cut, count}
+use Rattle.std.proofs.Common.{◌≡◌, ℕ, zero, suc, ◌+◌, ◌-◌, ◌<◌, ◌≤◌, Bool, true, false, cond, List, [], ◌∷◌, length, take, drop, Some, None, Option as Answer, Ok, Err, Result, sym, refl, ap, ◌∙◌, subst, arith}
+use Rattle.std.specs.List.{prefix_len, take_while}
+use Rattle.std.proofs.lemmas.List.Folds.{length-prefix_len}
+use Rattle.std.proofs.lemmas.List.Sums.{prefix_len-le-length}
+use Rattle.std.proofs.lemmas.List.{drop-drop, take_rest, length-drop}
+use Rattle.scanner.specs.declared.tokens.NoToken.{NoToken}
+use Rattle.scanner.specs.declared.tokens.Token.{Token as CodeToken}
+use Rattle.scanner.specs.Views.{Begins, Fronts, Sees, Gives, ahead, meaning, from}
+use Rattle.scanner.specs.declared.scanner.Scanner.{Scanner}
+use Rattle.grammar.specs.Tokens.{front, blank, Token, Found, found, nothing, token, end, no_token, next, placed, cut, count}
 
-module _ (p : ℕ → Bool) (s : List ℕ) (i : ℕ) where
-  head : i < length s → front p (drop i s) ≡ cond (p (get_or s i 0)) (suc (front p (drop (i + 1) s))) 0
-  head h = ap (front p) (drop_more s i 0 h)
+-- a run in front, in the library's words
+front_prefix : (p : ℕ → Bool) (l : List ℕ) → prefix_len p l ≡ front p l
+front_prefix p [] = refl
+front_prefix p (b ∷ l) = go (p b) (front_prefix p l)
+  where
+    go : (t : Bool) → prefix_len p l ≡ front p l → cond t (1 + prefix_len p l) 0 ≡ cond t (suc (front p l)) 0
+    go true ih = omega (arith, ih)
+    go false ih = refl
 
-  pub front_more : i < length s → p (get_or s i 0) ≡ true → front p (drop i s) ≡ suc (front p (drop (i + 1) s))
-  front_more h e = head h ∙ ap (λ b. cond b (suc (front p (drop (i + 1) s))) 0) e
-
-  pub front_stop : i < length s → p (get_or s i 0) ≡ false → front p (drop i s) ≡ 0
-  front_stop h e = head h ∙ ap (λ b. cond b (suc (front p (drop (i + 1) s))) 0) e
-
-  pub front_all : length s ≤ i → front p (drop i s) ≡ 0
-  front_all h = ap (front p) (drop_all i s h)
+pub run_is : (p : ℕ → Bool) (l : List ℕ) (n : ℕ) → n ≡ length (take_while p l) → (n ≡ front p l) × (n ≤ length l)
+run_is p l n e =
+    let run = e ∙ length-prefix_len p l ∙ front_prefix p l in
+    (run, omega (arith, run, front_prefix p l, prefix_len-le-length p l))
 
 -- bytes of a token before are passed over
 pub cut_past : (n at : ℕ) (l : List ℕ) → n ≤ length l → cut n at l ≡ cut 0 (at + n) (drop n l)
@@ -91,72 +95,24 @@ module _ (m : List ℕ) (at : ℕ) where
   unfolding cut
   see_end e = onward ∙ ap (cut 0 (past_blanks m at)) e
 
--- what else a byte that is in no name begins
-abbrev others : ℕ → List ℕ → Found
-others b l = cond (eqb b 34) (found_text (closed l)) (cond (eqb b 61 && next_is 61 l) (found same 1) (cond (sign_byte b) (found (sign b) 0) nothing))
-
--- a word in front
-pub word_begins : (l : List ℕ) (n : ℕ) → 0 < length l → name_byte (get_or l 0 0) ≡ true → n ≡ front name_byte l → n ≤ 32 → n ≤ length l → Begins l (word (take (n - 0) l)) n
-word_begins [] n h a e f g = absurd (omega arith)
-word_begins (b ∷ l) n h a e f g =
-    let m = front name_byte l in
-    let k : n ≡ suc m = e ∙ ap (λ t. cond t (suc m) 0) a in
-    let few : leb m 31 ≡ true = le-leb m 31 (omega arith) in
-    let whole : suc m ≡ n - 0 = omega arith in (
-      m,
-      k,
-      ap (λ t. cond t (cond (leb m 31) (found (word (b ∷ take m l)) m) nothing) (others b l)) a
-          ∙ ap (λ t. cond t (found (word (b ∷ take m l)) m) nothing) few
-          ∙ ap (λ x. found (word (take x (b ∷ l))) m) whole,
-      omega arith,
-    )
-
--- a single byte in front
-apart : (b : ℕ) (l : List ℕ) → name_byte b ≡ false → eqb b 34 ≡ false → (eqb b 61 && next_is 61 l) ≡ false → token b l ≡ cond (sign_byte b) (found (sign b) 0) nothing
-apart b l n q e =
-    ap (λ t. cond t (cond (leb (front name_byte l) 31) (found (word (b ∷ take (front name_byte l) l)) (front name_byte l)) nothing) (others b l)) n
-    ∙ ap (λ t. cond t (found_text (closed l)) (cond (eqb b 61 && next_is 61 l) (found same 1) (cond (sign_byte b) (found (sign b) 0) nothing))) q
-    ∙ ap (λ t. cond t (found same 1) (cond (sign_byte b) (found (sign b) 0) nothing)) e
-
--- the bytes do not begin with `==`
-abbrev pub Unpaired : List ℕ → Type 0
-Unpaired l = 2 ≤ length l → get_or l 0 0 ≡ 61 → get_or l 1 0 ≡ 61 → ⊥
-
-unpaired : (b : ℕ) (l : List ℕ) → Unpaired (b ∷ l) → (eqb b 61 && next_is 61 l) ≡ false
-unpaired b [] u = no_two (eqb b 61)
-  where
-    no_two : (x : Bool) → (x && false) ≡ false
-    no_two true = refl
-    no_two false = refl
-unpaired b (y ∷ l) u = go (eqb b 61) (eqb y 61) refl refl
-  where
-    go : (x z : Bool) → eqb b 61 ≡ x → eqb y 61 ≡ z → (x && z) ≡ false
-    go true true e f = absurd (u (omega arith) (eqb-true b 61 e) (eqb-true y 61 f))
-    go true false e f = refl
-    go false z e f = refl
-
-pub sign_begins : (l : List ℕ) → 0 < length l → eqb (get_or l 0 0) 34 ≡ false → Unpaired l → name_byte (get_or l 0 0) ≡ false → sign_byte (get_or l 0 0) ≡ true → Begins l (sign (get_or l 0 0)) 1
-sign_begins [] h q u n g = absurd (omega arith)
-sign_begins (b ∷ l) h q u n g = (0, refl, apart b l n q (unpaired b l u) ∙ ap (λ t. cond t (found (sign b) 0) nothing) g, omega arith)
-
 -- what a scanner that stands at `at` sees at p
-abbrev pub Seen : List ℕ → ℕ → ℕ → Front → Type 0
-Seen m at p (front_is.Token t n) = (from m at ≡ next p (meaning t) (from m (p + n))) × (0 < n) × (p + n ≤ length m)
-Seen m at p front_is.NoToken = from m at ≡ no_token p
-Seen m at p front_is.End = from m at ≡ end p
+abbrev pub Seen : List ℕ → ℕ → ℕ → Result (Answer (CodeToken × ℕ)) NoToken → Type 0
+Seen m at p (Ok (Some (t, n))) = (from m at ≡ next p (meaning t) (from m (p + n))) × (0 < n) × (p + n ≤ length m)
+Seen m at p (Ok None) = from m at ≡ end p
+Seen m at p (Err e) = from m at ≡ no_token p
 
-pub seen : (m : List ℕ) (at b : ℕ) (r : Front) → b ≡ front blank (take (length m - at) (drop at m)) → Fronts (take (length m - (at + b)) (drop (at + b) m)) r → Seen m at (at + b) r
+pub seen : (m : List ℕ) (at b : ℕ) (r : Result (Answer (CodeToken × ℕ)) NoToken) → b ≡ front blank (take (length m - at) (drop at m)) → Fronts (take (length m - (at + b)) (drop (at + b) m)) r → Seen m at (at + b) r
 seen m at b r e h =
     let f : past_blanks m at ≡ at + b = ap (λ l. at + front blank l) (sym (take_rest m at)) ∙ ap (λ n. at + n) (sym e) in
     let g : Fronts (drop (past_blanks m at) m) r = rw f (rw (take_rest m (at + b)) at h) in
     subst (λ p. Seen m at p r) f (go r (drop (past_blanks m at) m) refl g)
   where
-    go : (r : Front) (l : List ℕ) → drop (past_blanks m at) m ≡ l → Fronts l r → Seen m at (past_blanks m at) r
-    go (front_is.Token t n) l e h = see_token m at (meaning t) n (subst (λ x. Begins x (meaning t) n) (sym e) h)
-    go front_is.NoToken [] e h = absurd h
-    go front_is.NoToken (b ∷ l) e h = see_wrong m at b l e h
-    go front_is.End [] e h = see_end m at e
-    go front_is.End (b ∷ l) e h = absurd h
+    go : (r : Result (Answer (CodeToken × ℕ)) NoToken) (l : List ℕ) → drop (past_blanks m at) m ≡ l → Fronts l r → Seen m at (past_blanks m at) r
+    go (Ok (Some (t, n))) l e h = see_token m at (meaning t) n (subst (λ x. Begins x (meaning t) n) (sym e) h)
+    go (Ok None) [] e h = see_end m at e
+    go (Ok None) (b ∷ l) e h = absurd h
+    go (Err x) [] e h = absurd h
+    go (Err x) (b ∷ l) e h = see_wrong m at b l e h
 
 -- no more tokens than bytes
 pub cut_few : (n at : ℕ) (l : List ℕ) → count (cut n at l) ≤ length l
@@ -169,3 +125,10 @@ cut_few zero at (b ∷ l) = go (blank b) (token b l) (cut_few zero (suc at) l) (
     go true f h k = omega arith
     go false (found t n) h k = omega (arith, k n)
     go false nothing h k = omega arith
+
+-- what is seen is given, and the scanner goes on behind it
+pub given : (s : Scanner) (p : ℕ) (r : Result (Answer CodeToken) NoToken) (q : ℕ) → Sees s p r q → Gives (ahead s) p r (from s.model.now q)
+unfolding ahead
+given s p (Ok (Some t)) q h = h.0
+given s p (Ok None) q h = (h.0, ap (from s.model.now) h.1)
+given s p (Err x) q h = (h.0, ap (from s.model.now) h.1)

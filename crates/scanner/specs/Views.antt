@@ -1,18 +1,11 @@
 -- What a scanner and its tokens mean, and what its calls give. Assumes nothing.
-use Rattle.std.specs.Prelude.{◌≡◌, ℕ, suc, ◌<◌, ◌≤◌, List, [], ◌∷◌, length, take, drop, Some, None, Option as Answer}
+use Rattle.std.specs.Prelude.{◌≡◌, ℕ, suc, ◌<◌, ◌≤◌, List, [], ◌∷◌, length, take, drop, Some, None, Option as Answer, Ok, Err, Result}
 use Rattle.std.proofs.Math.Option.{Option, none, some}
 use Rattle.grammar.specs.Tokens.{Token, word, text, same, sign, meant, behind, closed, found, nothing, token, Tokens, end, no_token, next, cut}
 use Rattle.scanner.specs.declared.scanner.Scanner.{Scanner}
-use Rattle.scanner.specs.declared.runs.Quoted.{Quoted}
-use Rattle.scanner.specs.declared.runs.Quoted.TheVariants as quoted
+use Rattle.scanner.specs.declared.tokens.NoToken.{NoToken}
 use Rattle.scanner.specs.declared.tokens.Token.{Token as CodeToken}
 use Rattle.scanner.specs.declared.tokens.Token.TheVariants as code
-use Rattle.scanner.specs.declared.tokens.Front.{Front}
-use Rattle.scanner.specs.declared.tokens.Front.TheVariants as front
-use Rattle.scanner.specs.declared.tokens.Sight.{Sight}
-use Rattle.scanner.specs.declared.tokens.Sight.TheVariants as sight
-use Rattle.scanner.specs.declared.tokens.Next.{Next}
-use Rattle.scanner.specs.declared.tokens.Next.TheVariants as upcoming
 
 -- the token that a token in memory stands for
 abbrev pub meaning : CodeToken → Token
@@ -35,16 +28,11 @@ abbrev pub text_length : Option (List ℕ) → Answer ℕ
 text_length none = None
 text_length (some r) = Some (length r)
 
--- a number that is answered is below n
-abbrev pub Below : Answer ℕ → ℕ → Type 0
-Below None n = Unit {0}
-Below (Some i) n = i < n
-
--- how a quoted text goes on: it is closed, or some bytes belong to it and it goes on behind them, or it is none
-abbrev pub GoesOn : List ℕ → Quoted → Type 0
-GoesOn l quoted.Close = closed l ≡ some []
-GoesOn l (quoted.Bytes n) = (closed l ≡ behind (take n l) (closed (drop n l))) × (0 < n) × (n ≤ length l)
-GoesOn l quoted.Wrong = closed l ≡ none
+-- how a quoted text goes on: some bytes belong to it and it goes on behind them, or it is closed, or it is none
+abbrev pub GoesOn : List ℕ → Result (Answer ℕ) NoToken → Type 0
+GoesOn l (Ok (Some n)) = (closed l ≡ behind (take n l) (closed (drop n l))) × (0 < n) × (n ≤ length l)
+GoesOn l (Ok None) = closed l ≡ some []
+GoesOn l (Err e) = closed l ≡ none
 
 -- a token of n bytes stands in front
 abbrev pub Begins : List ℕ → Token → ℕ → Type 0
@@ -52,12 +40,12 @@ Begins [] t n = ⊥
 Begins (b ∷ l) t n = (m : ℕ) × (n ≡ suc m) × (token b l ≡ found t m) × (m ≤ length l)
 
 -- what bytes begin with
-abbrev pub Fronts : List ℕ → Front → Type 0
-Fronts l (front.Token t n) = Begins l (meaning t) n
-Fronts [] front.NoToken = ⊥
-Fronts (b ∷ l) front.NoToken = token b l ≡ nothing
-Fronts [] front.End = Unit {0}
-Fronts (b ∷ l) front.End = ⊥
+abbrev pub Fronts : List ℕ → Result (Answer (CodeToken × ℕ)) NoToken → Type 0
+Fronts l (Ok (Some (t, n))) = Begins l (meaning t) n
+Fronts [] (Ok None) = Unit {0}
+Fronts (b ∷ l) (Ok None) = ⊥
+Fronts [] (Err e) = ⊥
+Fronts (b ∷ l) (Err e) = token b l ≡ nothing
 
 -- the tokens of a model from a place on
 abbrev pub from : List ℕ → ℕ → Tokens
@@ -67,20 +55,20 @@ from model at = cut 0 at (drop at model)
 unfoldable pub ahead : Scanner → Tokens
 ahead s = from s.model.now s.at
 
--- what comes next, and what comes behind it
-abbrev pub Sees : Scanner → Sight → Type 0
-Sees s (sight.Token p t q) = (ahead s ≡ next p (meaning t) (from s.model.now q)) × (q ≤ length s.model.now)
-Sees s (sight.NoToken p) = ahead s ≡ no_token p
-Sees s (sight.End p) = ahead s ≡ end p
+-- what comes next stands at p, and what comes behind it from q on
+abbrev pub Sees : Scanner → ℕ → Result (Answer CodeToken) NoToken → ℕ → Type 0
+Sees s p (Ok (Some t)) q = (ahead s ≡ next p (meaning t) (from s.model.now q)) × (q ≤ length s.model.now)
+Sees s p (Ok None) q = (ahead s ≡ end p) × (q ≡ s.at)
+Sees s p (Err e) q = (ahead s ≡ no_token p) × (q ≡ s.at)
 
--- the answer is what comes next
-abbrev pub Peeks : Tokens → Next → Type 0
-Peeks c (upcoming.Token p t) = (d : Tokens) × (c ≡ next p (meaning t) d)
-Peeks c (upcoming.NoToken p) = c ≡ no_token p
-Peeks c (upcoming.End p) = c ≡ end p
+-- what comes next stands at p
+abbrev pub Peeks : Tokens → ℕ → Result (Answer CodeToken) NoToken → Type 0
+Peeks c p (Ok (Some t)) = (d : Tokens) × (c ≡ next p (meaning t) d)
+Peeks c p (Ok None) = c ≡ end p
+Peeks c p (Err e) = c ≡ no_token p
 
--- the answer is what came next, and the tokens behind it are still to come
-abbrev pub Gives : Tokens → Next → Tokens → Type 0
-Gives c (upcoming.Token p t) d = c ≡ next p (meaning t) d
-Gives c (upcoming.NoToken p) d = (c ≡ no_token p) × (d ≡ c)
-Gives c (upcoming.End p) d = (c ≡ end p) × (d ≡ c)
+-- what came next stands at p, and the tokens behind it are still to come
+abbrev pub Gives : Tokens → ℕ → Result (Answer CodeToken) NoToken → Tokens → Type 0
+Gives c p (Ok (Some t)) d = c ≡ next p (meaning t) d
+Gives c p (Ok None) d = (c ≡ end p) × (d ≡ c)
+Gives c p (Err e) d = (c ≡ no_token p) × (d ≡ c)

@@ -7,7 +7,7 @@ ghost use Rattle.scanner.specs.Views.{pair_byte};
 pub fn is_blank(b: u8) -> bool
     ensures { result ≡ blank b }
 {
-    b == b' ' || b == b'\t' || b == b'\n'
+    matches!(b, b' ' | b'\t' | b'\n')
 }
 
 // Whether a byte is a token by itself.
@@ -24,10 +24,11 @@ pub fn is_sign(b: u8) -> bool
 pub fn is_printable(b: u8) -> bool
     ensures { result ≡ printable b }
 {
-    b >= 32 && b <= 126
+    matches!(b, b' '..=b'~')
 }
 
-// The byte that a backslash and this character stand for in quotes, or none.
+// The byte that a backslash and this character stand for in quotes, or none. Tree files have other escapes; a set of them as a parameter
+// would be longer than this function and that of tree files.
 pub fn escaped_byte(c: char) -> Option<u8>
     ensures { result ≡ pair_byte c }
 {

@@ -10,4 +10,4 @@ mod tokens;
 
 pub use crate::bytes::escaped_byte;
 pub use crate::scanner::Scanner;
-pub use crate::tokens::{Next, Token};
+pub use crate::tokens::{Next, NoToken, Token};

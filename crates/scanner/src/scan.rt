@@ -6,7 +6,7 @@ ghost use Rattle.scanner.specs.Views.{ahead, Sees, Peeks, Gives};
 use crate::fronts::front_token;
 use crate::runs::blanks;
 use crate::scanner::Scanner;
-use crate::tokens::{Front, Next, Sight};
+use crate::tokens::{Next, NoToken};
 
 impl<'a> Scanner<'a> {
     // All tokens of the model are still to come; there are no more of them than bytes.
@@ -17,40 +17,33 @@ impl<'a> Scanner<'a> {
         Scanner { model, at: 0 }
     }
 
-    // What comes next, and where it ends.
-    fn see(&self) -> Sight<'a>
-        ensures { Sees self.now result }
+    // What comes next, and where the scanner goes on: behind a token, and else where it stands.
+    fn see(&self) -> (Next<'a>, usize)
+        ensures { Sees self.now result.0.place result.0.token result.1 }
     {
-        let from = self.at + blanks(&self.model[self.at..]);
-        match front_token(&self.model[from..]) {
-            Front::Token(token, n) => Sight::Token(from, token, from + n),
-            Front::NoToken => Sight::NoToken(from),
-            Front::End => Sight::End(from),
-        }
+        let place = self.at + blanks(&self.model[self.at..]);
+        let (token, end) = match front_token(&self.model[place..]) {
+            Ok(Some((token, len))) => (Ok(Some(token)), place + len),
+            Ok(None) => (Ok(None), self.at),
+            Err(NoToken) => (Err(NoToken), self.at),
+        };
+        (Next { place, token }, end)
     }
 
     // What comes next.
     pub fn peek(&self) -> Next<'a>
-        ensures { Peeks (ahead self.now) result }
+        ensures { Peeks (ahead self.now) result.place result.token }
     {
-        match self.see() {
-            Sight::Token(place, token, _) => Next::Token(place, token),
-            Sight::NoToken(place) => Next::NoToken(place),
-            Sight::End(place) => Next::End(place),
-        }
+        let (next, _) = self.see();
+        next
     }
 
     // Gives the next token and passes it over. Past the last, and where no token stands, the scanner stays.
     pub fn next(&mut self) -> Next<'a>
-        ensures { Gives (ahead self.old) result (ahead self.new) }
+        ensures { Gives (ahead self.old) result.place result.token (ahead self.new) }
     {
-        match self.see() {
-            Sight::Token(place, token, end) => {
-                self.at = end;
-                Next::Token(place, token)
-            }
-            Sight::NoToken(place) => Next::NoToken(place),
-            Sight::End(place) => Next::End(place),
-        }
+        let (next, end) = self.see();
+        self.at = end;
+        next
     }
 }

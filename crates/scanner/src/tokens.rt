@@ -1,7 +1,7 @@
 // Tokens, which borrow from the model's bytes.
 
 // A token.
-#[derive(Clone, Copy)]
+#[derive(Clone, Copy, PartialEq, Eq, Debug)]
 pub enum Token<'a> {
     // A word.
     Word(&'a [u8]),
@@ -13,29 +13,13 @@ pub enum Token<'a> {
     Sign(u8),
 }
 
-// What comes next in a model.
-#[derive(Clone, Copy)]
-pub enum Next<'a> {
-    // A token, with its place.
-    Token(usize, Token<'a>),
-    // No token stands at this place.
-    NoToken(usize),
-    // The end of the model, which has so many bytes.
-    End(usize),
-}
+// No token stands in front.
+#[derive(Clone, Copy, PartialEq, Eq, Debug)]
+pub struct NoToken;
 
-// What comes next, and where a token ends.
-#[derive(Clone, Copy)]
-pub enum Sight<'a> {
-    Token(usize, Token<'a>, usize),
-    NoToken(usize),
-    End(usize),
-}
-
-// What bytes begin with: a token of so many bytes, no token, or nothing at all.
-#[derive(Clone, Copy)]
-pub enum Front<'a> {
-    Token(Token<'a>, usize),
-    NoToken,
-    End,
+// What comes next in a model, and its place: a token, none at the end of the model, or what is no token.
+#[derive(Clone, Copy, PartialEq, Eq, Debug)]
+pub struct Next<'a> {
+    pub place: usize,
+    pub token: Result<Option<Token<'a>>, NoToken>,
 }

@@ -1,16 +1,15 @@
 // Fetching: what stands at a path of the value that a tool runs over.
 ghost use Rattle.std.specs.Prelude.{◌≡◌};
-ghost use Rattle.values.specs.Values.{nth};
-ghost use Rattle.values.specs.Memory.{values};
 ghost use Rattle.trees.specs.Files.{split};
 ghost use Rattle.lookup.specs.Finds.{looked};
+ghost use Rattle.tools.specs.Calls.{told as told_text};
 ghost use Rattle.toolrun.specs.Runs.{told as told_of, fetchable};
-ghost use Rattle.toolrun.specs.Kept.{read};
+ghost use Rattle.toolrun.specs.Kept.{standing};
 
-use crate::events::Seen;
+use crate::scope::Scope;
 use lookup::find;
 use trees::{count_names, is_path};
-use values::{Content, Number, Table};
+use values::Content;
 
 // The most names that a path has which is fetched.
 const MAX_NAMES: usize = 8;
@@ -22,26 +21,16 @@ pub(crate) fn is_fetchable(path: &[u8]) -> bool
     is_path(path) && count_names(path) <= MAX_NAMES
 }
 
-// The text under a number, if there is one.
-fn text_under(table: &Table, number: Number) -> Seen<'_>
-    ensures { read result ≡ told_of (nth (values table.now) number) }
-{
-    let Some(content) = table.value(number) else {
-        return Seen::Nothing;
-    };
-    match content {
-        Content::Truth(_) => Seen::Nothing,
-        Content::Text(text) => Seen::Text(text),
-        Content::Binding(_) => Seen::Nothing,
-    }
-}
-
-// The text at a path in the value under a number, if there is one.
-pub(crate) fn text_at<'t>(table: &'t Table, root: Number, path: &[u8]) -> Seen<'t>
-    ensures { read result ≡ told_of (looked (nth (values table.now) root) (split 47 path.now)) }
-{
-    match find(table, root, path) {
-        Some(number) => text_under(table, number),
-        None => Seen::Nothing,
+impl<'t> Scope<'t> {
+    // The text at a path, if one stands there.
+    pub(crate) fn text_at(self, path: &[u8]) -> Option<&'t [u8]>
+        ensures { told_text result ≡ told_of (looked (standing self.entry) (split 47 path.now)) }
+    {
+        let number = find(self.table, self.root, path)?;
+        match self.table.value(number)? {
+            Content::Truth(_) => None,
+            Content::Text(text) => Some(text),
+            Content::Binding(_) => None,
+        }
     }
 }

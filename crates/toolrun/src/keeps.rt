@@ -1,15 +1,15 @@
 // Keeping the answers of a run.
-ghost use Rattle.std.specs.Prelude.{◌≡◌, ◌+◌, ◌<◌, ◌≤◌, ◌&&◌, [], ◌∷◌, ◌++◌, length, IfOk, vec_len, nat_le, nat_lt};
-ghost use Rattle.std.proofs.Math.Option.{none, some};
-ghost use Rattle.tools.specs.Calls.{answers_of};
-ghost use Rattle.toolrun.specs.Kept.{answers as kept};
+ghost use Rattle.std.specs.Prelude.{◌≡◌, ◌+◌, ◌&&◌, [], IfOk, vec_len, nat_le, nat_lt};
+ghost use Rattle.tools.specs.Calls.{answers_of, told};
+ghost use Rattle.toolrun.specs.Kept.{answers as kept, Keeps};
 
+use crate::faults::Fault;
 use crate::store::ToolRun;
 use std::alloc::{AllocError, Global};
-use tools::{Answers, Span, Told};
+use tools::{Answers, Span};
 
 // The most answers, and the most bytes that they have in all.
-const MAX_ANSWERS: usize = 16;
+pub const MAX_ANSWERS: usize = 16;
 
 const MAX_POOL: usize = 4096;
 
@@ -42,31 +42,26 @@ impl ToolRun {
     }
 
     // Whether there is room for one answer more, of so many bytes.
-    pub(crate) fn has_room(&self, bytes: usize) -> bool
+    fn has_room(&self, bytes: usize) -> bool
         ensures { result ≡ (nat_lt (vec_len self.now.told) 16 && nat_le (vec_len self.now.pool + bytes) 4096) }
     {
         self.told.len() < MAX_ANSWERS && bytes <= MAX_POOL - self.pool.len()
     }
 
-    // One answer more: nothing was found.
-    pub(crate) fn tell_nothing(&mut self)
-        requires { vec_len self.old.told < 16 }
-        ensures { kept self.new ≡ kept self.old ++ none ∷ [] }
+    // Keeps one answer more, if there is room: a text, or none where nothing was found.
+    pub(crate) fn keep(&mut self, answer: Option<&[u8]>) -> Result<(), Fault>
+        ensures { Keeps (kept self.old) (told answer.entry) result (kept self.new) }
     {
-        self.told.push_reserved(Told::Nothing);
-    }
-
-    // One answer more: this text.
-    pub(crate) fn tell_text(&mut self, text: &[u8])
-        requires few { vec_len self.old.told < 16 }
-        requires room { vec_len self.old.pool + length text.now ≤ 4096 }
-        ensures { kept self.new ≡ kept self.old ++ some text.now ∷ [] }
-    {
+        let text = answer.unwrap_or(&[]);
+        if !self.has_room(text.len()) {
+            return Err(Fault::NoRoom);
+        }
         let span = Span {
             start: self.pool.len(),
             len: text.len(),
         };
         let _ = self.pool.extend_from_slice(text);
-        self.told.push_reserved(Told::Text(span));
+        self.told.push_reserved(answer.and(Some(span)));
+        Ok(())
     }
 }

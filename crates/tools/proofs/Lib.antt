@@ -1,4 +1,4 @@
 pub mod Looking
 pub mod Turns
 pub mod Whole
-pub mod Asking
+pub mod Named

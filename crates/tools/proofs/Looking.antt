@@ -1,5 +1,5 @@
 -- Looking up an answer. Assumes nothing.
-use Rattle.std.proofs.Common.{◌≡◌, ℕ, zero, suc, ◌+◌, ◌-◌, ◌<◌, ◌≤◌, min, List, [], ◌∷◌, map, length, get_or, take, drop, sym, refl, ap, ◌∙◌, ⊎_elim, add-one, arith, length-drop}
+use Rattle.std.proofs.Common.{◌≡◌, ℕ, zero, suc, ◌+◌, ◌-◌, ◌<◌, ◌≤◌, min, List, [], ◌∷◌, map, length, get_or, take, drop, sym, refl, ap, ◌∙◌, ⊎_elim, arith, length-drop}
 use mathlib.Core.Option.{none, some}
 use Rattle.std.proofs.lemmas.List.{take_all, drop_all}
 use Rattle.std.proofs.lemmas.Bool.{cases_lt}
@@ -33,18 +33,3 @@ pub nth_here : {A B : Type 0} (f : A → B) (xs : List A) (i : ℕ) (d : A) → 
 nth_here f [] i d l = absurd (omega arith)
 nth_here f (x ∷ xs) zero d l = refl
 nth_here f (x ∷ xs) (suc i) d l = nth_here f xs i d (omega arith)
-
--- what is looked up begins what is left
-pub left_none : {A : Type 0} (xs : List A) (i : ℕ) → nth xs i ≡ none → drop i xs ≡ []
-left_none [] zero e = refl
-left_none [] (suc i) e = refl
-left_none (x ∷ xs) zero e = let z : ◌≡◌ {A = ℕ} 0 1 = cc in absurd (omega arith)
-left_none (x ∷ xs) (suc i) e = left_none xs i e
-
-pub left_some : {A : Type 0} (xs : List A) (i : ℕ) (x : A) → nth xs i ≡ some x → drop i xs ≡ x ∷ drop (i + 1) xs
-left_some {A = A} xs i x e = go xs i e ∙ ap (λ n. x ∷ drop n xs) (sym (add-one i))
-  where
-    go : (ys : List A) (j : ℕ) → nth ys j ≡ some x → drop j ys ≡ x ∷ drop (suc j) ys
-    go [] j h = let z : ◌≡◌ {A = ℕ} 0 1 = cc in absurd (omega arith)
-    go (y ∷ ys) zero h = let s : y ≡ x = cc in ap (λ w. w ∷ ys) s
-    go (y ∷ ys) (suc j) h = go ys j h

@@ -4,8 +4,8 @@ ghost use Rattle.tools.specs.Plans.{beside as beside_of};
 ghost use Rattle.tools.specs.Sound.{beside_sound};
 
 use crate::answers::Answers;
-use crate::replies::{MAX_BYTES, Reply};
-use crate::toolbox::Toolbox;
+use crate::replies::Reply;
+use crate::toolbox::{Call, Toolbox};
 
 // Two toolboxes, themselves a toolbox: left's tool if left has the name, else right's.
 #[derive(Drop)]
@@ -20,22 +20,13 @@ impl<L: Toolbox, R: Toolbox> Toolbox for SideBySide<L, R> {
     ghost sound = { λ s. beside_sound (L.Toolbox.tools s.left) (R.Toolbox.tools s.right) (L.Toolbox.sound s.left) (R.Toolbox.sound s.right) };
 
     fn version(&self, name: &[u8]) -> Option<u16> {
-        match self.left.version(name) {
-            Some(version) => Some(version),
-            None => self.right.version(name),
-        }
+        self.left.version(name).or_else(|| self.right.version(name))
     }
 
-    fn reply(
-        &self,
-        name: &[u8],
-        command: &[u8],
-        answers: Answers<'_>,
-        out: &mut [u8; MAX_BYTES],
-    ) -> Option<Reply> {
-        match self.left.version(name) {
-            Some(_) => self.left.reply(name, command, answers, out),
-            None => self.right.reply(name, command, answers, out),
+    fn reply(&self, call: Call<'_>, answers: Answers<'_>) -> Option<Reply> {
+        match self.left.version(call.name) {
+            Some(_) => self.left.reply(call, answers),
+            None => self.right.reply(call, answers),
         }
     }
 }

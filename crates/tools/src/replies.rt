@@ -1,54 +1,48 @@
 // Replies of tools.
 ghost use Rattle.std.specs.Prelude.{◌≡◌, ◌≤◌, length};
-ghost use Rattle.tools.specs.Tools.{Small};
-ghost use Rattle.tools.specs.Calls.{says, written, Replies};
+ghost use Rattle.tools.specs.Tools.{fetch, failure};
+ghost use Rattle.tools.specs.Calls.{says, code};
+
+use arrayvec::ArrayVec;
 
 // The most bytes that a command, a path and a product have.
 pub const MAX_BYTES: usize = 1024;
 
-// The codes with which `cat` and `first` fail: nothing was found, or the product would have over 1,024 bytes.
-pub const NOTHING_FOUND: u8 = 1;
+// A path or a product, in memory of its own.
+pub type Text = ArrayVec<u8, MAX_BYTES>;
 
-pub const TOO_LONG: u8 = 2;
-
-// A reply whose path or product stands in front of a lent buffer: how many bytes it has. Or failure with a code.
-#[derive(Clone, Copy)]
+// A reply: this path is fetched next, or this is the product, or the tool fails with a code, which each tool chooses from 1 to 255.
+#[derive(Clone, Drop)]
 pub enum Reply {
-    Fetch(usize),
-    Product(usize),
+    Fetch(Text),
+    Product(Text),
     Failure(u8),
 }
 
-// A reply that is not written yet.
-#[derive(Clone, Copy)]
-pub enum Step<'p, 't> {
-    Fetch(&'p [u8]),
-    Product(&'t [u8]),
-    Failure(u8),
+// Why `cat` and `first` fail, with the code. A tool that has other codes replies `Reply::Failure`.
+#[derive(Clone, Copy, PartialEq, Eq, Debug)]
+pub enum Failed {
+    // Nothing was found where a text is wanted.
+    NothingFound = 1,
+    // The product would have over 1,024 bytes.
+    TooLong = 2,
 }
 
-// Writes bytes in front of a buffer, whose rest stays.
-fn write(bytes: &[u8], out: &mut [u8; MAX_BYTES])
-    requires { length bytes.now ≤ 1024 }
-    ensures { out.new ≡ written bytes.now out.old }
-{
-    out[0..bytes.len()].copy_from_slice(bytes);
+impl From<Failed> for Reply {
+    ghost from_gives = { λ failed reply. says reply ≡ failure (code failed) };
+
+    fn from(failed: Failed) -> Reply {
+        Reply::Failure(failed as u8)
+    }
 }
 
-// Writes a reply.
-pub fn tell(step: Step<'_, '_>, out: &mut [u8; MAX_BYTES]) -> Reply
-    requires { Small (says step) }
-    ensures { Replies (says step.entry) out.old result out.new }
+// A reply that fetches a path.
+pub(crate) fn fetching(path: &[u8]) -> Reply
+    requires { length path.now ≤ 1024 }
+    ensures { says result ≡ fetch path.now }
 {
-    match step {
-        Step::Fetch(path) => {
-            write(path, out);
-            Reply::Fetch(path.len())
-        }
-        Step::Product(text) => {
-            write(text, out);
-            Reply::Product(text.len())
-        }
-        Step::Failure(code) => Reply::Failure(code),
+    match Text::try_from(path) {
+        Ok(path) => Reply::Fetch(path),
+        Err(_) => unreachable(),
     }
 }

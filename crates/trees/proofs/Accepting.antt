@@ -1,12 +1,13 @@
 -- Laws of accepted trees. Assumes nothing.
 use Rattle.std.proofs.Common.{◌≡◌, ℕ, ◌≤◌, Bool, true, false, cond, ◌&&◌, leb, List, length, sym, refl, ap, ◌∙◌, arith}
+use Rattle.std.proofs.lemmas.Bool.{and_parts, and_from}
 use Rattle.std.proofs.lemmas.Bool.Decides.{nat_tests}
 use Rattle.values.specs.Values.{Members, nil, binding}
 use Rattle.values.specs.Limits.{proper as is_proper, height, small, all_ordered, all_named}
 use Rattle.trees.specs.Files.{File, done, refused, accepted, members_read, split, read_from, read_tree, listing}
 use Rattle.trees.specs.Accepted.{tree_members, tree_value, value_read}
 use Rattle.trees.specs.declared.tree.Tree.{Tree}
-use Rattle.trees.proofs.Splits.{no, both, both_hold}
+use Rattle.trees.proofs.Splits.{no}
 use Rattle.trees.specs.Laws.{LinesAgree}
 use Rattle.trees.proofs.Listed.{fill_lines}
 use Rattle.trees.proofs.Made.{read_back}
@@ -30,9 +31,9 @@ tree_listed t = spelling.accepted t.bytes.now (tree_members t) (tree_reads t)
 pub read_proper : (bs : List ℕ) (ms : Members) → read_tree bs ≡ done ms → is_proper (binding ms) ≡ true
 read_proper bs ms e =
     let p = exact.proper bs ms e in
-    let w = both (leb (height (binding ms)) 16) (small (binding ms)) p.1 in
-    both_hold (leb (height (binding ms)) 16) (small (binding ms) && (all_ordered ms && all_named ms)) w.0
-    (both_hold (small (binding ms)) (all_ordered ms && all_named ms) w.1 (both_hold (all_ordered ms) (all_named ms) p.0 p.2))
+    let w = and_parts (leb (height (binding ms)) 16) (small (binding ms)) p.1 in
+    and_from (leb (height (binding ms)) 16) (small (binding ms) && (all_ordered ms && all_named ms)) w.0
+    (and_from (small (binding ms)) (all_ordered ms && all_named ms) w.1 (and_from (all_ordered ms) (all_named ms) p.0 p.2))
 
 pub tree_proper : (t : Tree) → is_proper (tree_value t) ≡ true
 tree_proper t = read_proper t.bytes.now (tree_members t) (tree_reads t)

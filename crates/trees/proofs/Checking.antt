@@ -30,9 +30,6 @@ start bs kept l f =
       within = omega arith;
     }
 
-pub over_long : (bs : List ℕ) → 32768 < length bs → read_tree bs ≡ refused 1 0
-over_long bs l = let long : leb (length bs) 32768 ≡ false = grind (arith, nat_tests) in ap (λ b. cond b (read_from 0 nil (split 10 bs)) (refused 1 0)) long
-
 on_read : (at : ℕ) (o : Option Line) (ms : Members) (k : Members → File) → on_line at o ms k ≡ on_step at (step_read o ms) k
 on_read at none ms k = refl
 on_read at (some l) ms k = refl

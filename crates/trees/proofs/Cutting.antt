@@ -1,27 +1,31 @@
 -- Cutting at the first separator, as a loop does it, and what it means for the parts. Assumes nothing.
-use Rattle.std.proofs.Common.{◌≡◌, ℕ, ◌+◌, ◌-◌, ◌<◌, ◌≤◌, true, not, eqb, List, [], ◌∷◌, ◌++◌, length, get_or, take, drop, Some, None, Option as Answer, sym, refl, ap, ◌∙◌, append-nil, arith, Bor}
-use Rattle.std.proofs.lemmas.Bool.Decides.{nat_tests}
-use Rattle.std.proofs.lemmas.List.{take-append-drop, take_more, take_all, take_rest, drop_more, length-append}
+use Rattle.std.proofs.Common.{◌≡◌, ℕ, zero, suc, ◌+◌, ◌-◌, ◌<◌, ◌≤◌, true, not, eqb, List, [], ◌∷◌, ◌++◌, length, take, drop, Some, None, Option as Answer, sym, refl, ap, ◌∙◌, append-nil, arith, Bor}
+use Rattle.std.proofs.lemmas.Bool.{and_from, ne_eqb, not_from_false}
+use Rattle.std.specs.List.{AllWithin, HoldsAt}
+use Rattle.std.specs.Option.{MatchOption}
+use Rattle.std.proofs.lemmas.List.{take-append-drop, take_all, take_rest, drop_more, length-append}
 use Rattle.trees.specs.Cuts.{free, behind}
 use Rattle.trees.specs.Files.{split}
-use Rattle.trees.proofs.Splits.{both_hold, free_both, split_front, split_free}
+use Rattle.trees.proofs.Splits.{split_front, split_free}
 
-not_here : (a z : ℕ) → (a ≡ z → ⊥) → not (eqb a z) ≡ true
-not_here a z h = grind (arith, nat_tests)
+-- no separator in front of where the first was found
+free_front : (z : ℕ) (bs : List ℕ) (i : ℕ) → i ≤ length bs → AllWithin (λ b. b ≡ z → ⊥) bs 0 i → free z (take i bs) ≡ true
+free_front z bs zero l h = refl
+free_front z [] (suc i) l h = absurd (omega arith)
+free_front z (b ∷ bs) (suc i) l h = and_from (not (eqb b z)) (free z (take i bs)) (not_from_false (eqb b z) (ne_eqb b z (h 0 b (omega arith) (omega arith)))) (free_front z bs i (omega arith) (λ k d p q. h (suc k) d (omega arith) (omega arith)))
 
-pub free_more : (z : ℕ) (bs : List ℕ) (i : ℕ) → i < length bs → (get_or bs i 0 ≡ z → ⊥) → free z (take i bs) ≡ true → free z (take (i + 1) bs) ≡ true
-free_more z bs i l h f =
-    ap (free z) (take_more bs i 0 l) ∙ free_both z (take i bs) (get_or bs i 0 ∷ []) f (both_hold (not (eqb (get_or bs i 0) z)) true (not_here (get_or bs i 0) z h) refl)
+-- where the first separator stands, if there is one
+abbrev pub First : ℕ → List ℕ → Answer ℕ → Type 0
+First z bs o = MatchOption o (AllWithin (λ b. b ≡ z → ⊥) bs 0 (length bs)) (λ i. (i < length bs) × HoldsAt (λ b. b ≡ z) bs i × AllWithin (λ b. b ≡ z → ⊥) bs 0 i)
 
-pub cut_here : (z : ℕ) (bs : List ℕ) (i : ℕ) → i < length bs → get_or bs i 0 ≡ z → free z (take i bs) ≡ true → (bs ≡ take (i - 0) bs ++ z ∷ take (length bs - (i + 1)) (drop (i + 1) bs)) × (free z (take (i - 0) bs) ≡ true)
-cut_here z bs i l e f =
-    let same : i ≡ i - 0 = omega arith in (
-      sym (take-append-drop i bs) ∙ (λ j. take (same j) bs ++ (drop_more bs i 0 l ∙ (λ k. e k ∷ sym (take_rest bs (i + 1)) k)) j),
-      ap (λ m. free z (take m bs)) (sym same) ∙ f,
-    )
+pub cut_here : (z : ℕ) (bs : List ℕ) (i : ℕ) → First z bs (Some i) → (bs ≡ take i bs ++ z ∷ take (length bs - (i + 1)) (drop (i + 1) bs)) × (free z (take i bs) ≡ true)
+cut_here z bs i (l, e, h) = (
+  sym (take-append-drop i bs) ∙ ap (λ t. take i bs ++ t) (drop_more bs i 0 l ∙ (λ k. e 0 k ∷ sym (take_rest bs (i + 1)) k)),
+  free_front z bs i (omega arith) h,
+)
 
-pub cut_nowhere : (z : ℕ) (bs : List ℕ) (i : ℕ) → length bs ≤ i → free z (take i bs) ≡ true → (bs ≡ bs ++ []) × (free z bs ≡ true)
-cut_nowhere z bs i l f = (sym (append-nil bs), ap (free z) (sym (take_all i bs l)) ∙ f)
+pub cut_nowhere : (z : ℕ) (bs : List ℕ) → First z bs None → (bs ≡ bs ++ []) × (free z bs ≡ true)
+cut_nowhere z bs h = (sym (append-nil bs), ap (free z) (sym (take_all (length bs) bs (omega arith))) ∙ free_front z bs (length bs) (omega arith) h)
 
 -- the parts that are to come
 abbrev pub rest_parts : ℕ → Answer (Bor (List ℕ)) → List (List ℕ)

@@ -1,12 +1,12 @@
 -- What is read is a binding as it should be. Assumes nothing.
 use Rattle.std.proofs.Common.{◌≡◌, ℕ, ◌+◌, Bool, true, false, cond, ◌&&◌, leb, List, [], ◌∷◌, length, sym, refl, ap, ◌∙◌, subst, arith}
+use Rattle.std.proofs.lemmas.Bool.{and_parts, and_from}
 use mathlib.Core.Option.{Option, none, some}
 use Rattle.values.specs.Values.{Name, Value, text, truth, binding, Members, nil, cons, same_name, before, mapped}
 use Rattle.values.specs.Limits.{first_after, ordered, all_ordered, fit, named, all_named}
 use Rattle.trees.specs.Lines.{Leaf, text_leaf, truth_leaf, empty_leaf, Line, line, Read, ok, bad, after, chain, at_end, put, into, within, step}
 use Rattle.trees.specs.Files.{split, all_fit, leaf_of, line_from, line_of, done, refused, on_step, on_line, read_from, read_tree}
 use Rattle.trees.proofs.Listed.{clash, after_ok}
-use Rattle.trees.proofs.Splits.{both, both_hold}
 use Rattle.trees.proofs.Spellings.{never, when_some, mapped_some}
 
 record Fine (ms : Members) : Type 0 where
@@ -19,8 +19,8 @@ record FineValue (v : Value) : Type 0 where
 
 fine_cons : (n : Name) (v : Value) (ms : Members) → fit n ≡ true → FineValue v → first_after n ms ≡ true → Fine ms → Fine (cons n v ms)
 fine_cons n v ms f g a h = record {
-  ordered = both_hold (ordered v) (first_after n ms && all_ordered ms) g.ordered (both_hold (first_after n ms) (all_ordered ms) a h.ordered);
-  named = both_hold (fit n) (named v && all_named ms) f (both_hold (named v) (all_named ms) g.named h.named);
+  ordered = and_from (ordered v) (first_after n ms && all_ordered ms) g.ordered (and_from (first_after n ms) (all_ordered ms) a h.ordered);
+  named = and_from (fit n) (named v && all_named ms) f (and_from (named v) (all_named ms) g.named h.named);
 }
 
 fine_nil : Fine nil
@@ -34,10 +34,10 @@ record Parts (n : Name) (v : Value) (ms : Members) : Type 0 where
 
 parts : (n : Name) (v : Value) (ms : Members) → Fine (cons n v ms) → Parts n v ms
 parts n v ms h =
-    let o = both (ordered v) (first_after n ms && all_ordered ms) h.ordered in
-    let o2 = both (first_after n ms) (all_ordered ms) o.1 in
-    let q = both (fit n) (named v && all_named ms) h.named in
-    let q2 = both (named v) (all_named ms) q.1 in
+    let o = and_parts (ordered v) (first_after n ms && all_ordered ms) h.ordered in
+    let o2 = and_parts (first_after n ms) (all_ordered ms) o.1 in
+    let q = and_parts (fit n) (named v && all_named ms) h.named in
+    let q2 = and_parts (named v) (all_named ms) q.1 in
     record { fits = q.0; value = record { ordered = o.0; named = q2.0 }; first = o2.0; rest = record { ordered = o2.1; named = q2.1 } }
 
 fine_chain : (p : List Name) (c : Leaf) → all_fit p ≡ true → FineValue (chain p c)
@@ -45,7 +45,7 @@ fine_chain [] (text_leaf s) f = record { ordered = refl; named = refl }
 fine_chain [] (truth_leaf b) f = record { ordered = refl; named = refl }
 fine_chain [] empty_leaf f = record { ordered = refl; named = refl }
 fine_chain (n ∷ p) c f =
-    let a = both (fit n) (all_fit p) f in
+    let a = and_parts (fit n) (all_fit p) f in
     let g = fine_cons n (chain p c) nil a.0 (fine_chain p c a.1) refl fine_nil in
     record { ordered = g.ordered; named = g.named }
 
@@ -74,7 +74,7 @@ fine_end m v n p c ws f h k e = go (same_name n m) (before m n) refl e
     go false true b e =
         let w : cons m v (cons n (chain p c) nil) ≡ ws = cc in
         let a = parts m v nil h in
-        let f2 = both (fit n) (all_fit p) f in
+        let f2 = and_parts (fit n) (all_fit p) f in
         subst Fine w (fine_cons m v (cons n (chain p c) nil) a.fits a.value b (fine_cons n (chain p c) nil f2.0 (fine_chain p c f2.1) refl fine_nil))
     go false false b e = clash e
 
@@ -93,10 +93,10 @@ fine_into (cons m v ms) n p c ws r h e = r ws (record { ordered = h.ordered; nam
 mutual
   put_fine : (ms : Members) (n : Name) (p : List Name) (c : Leaf) (ws : Members) → all_fit (n ∷ p) ≡ true → Fine ms → put ms n p c ≡ ok ws → Fine ws
   put_fine nil n p c ws f h e =
-      let f2 = both (fit n) (all_fit p) f in
+      let f2 = and_parts (fit n) (all_fit p) f in
       let w : cons n (chain p c) nil ≡ ws = cc in
       subst Fine w (fine_cons n (chain p c) nil f2.0 (fine_chain p c f2.1) refl fine_nil)
-  put_fine (cons m v ms) n p c ws f h e = fine_behind m v ms n p c ws f h (λ us g. into_fine v p c us (both (fit n) (all_fit p) f).1 g) (λ us g. put_fine ms n p c us f g) e
+  put_fine (cons m v ms) n p c ws f h e = fine_behind m v ms n p c ws f h (λ us g. into_fine v p c us (and_parts (fit n) (all_fit p) f).1 g) (λ us g. put_fine ms n p c us f g) e
 
   into_fine : (v : Value) (p : List Name) (c : Leaf) (ws : Members) → all_fit p ≡ true → FineValue v → into v p c ≡ ok ws → Fine ws
   into_fine (text s) p c ws f h e = clash e

@@ -4,7 +4,7 @@ pub mod Splits
 pub mod Spellings
 pub mod Exact
 pub mod Cutting
-pub mod Escaping
+pub mod Names
 pub mod Order
 pub mod Reading
 pub mod Accepting

@@ -1,5 +1,6 @@
 -- Lines as bytes, and files. Assumes nothing.
 use Rattle.std.proofs.Common.{◌≡◌, ℕ, ◌+◌, ◌≤◌, Bool, true, false, cond, not, ◌&&◌, eqb, leb, List, [], ◌∷◌, ◌++◌, map, length, sym, refl, ap, ◌∙◌, arith}
+use Rattle.std.proofs.lemmas.Bool.{and_parts, and_from}
 use mathlib.Core.Option.{Option, none, some}
 use Rattle.std.proofs.lemmas.Bool.Decides.{nat_tests}
 use Rattle.values.specs.Values.{Name, Value, text, truth, binding, Members, nil, cons, same_name, mapped}
@@ -10,7 +11,7 @@ use Rattle.trees.specs.Files.{split, joined, plain, unescape, all_fit, kind_mark
 use Rattle.values.proofs.Sameness.{name_test}
 use Rattle.trees.proofs.Listed.{fill_lines}
 use Rattle.trees.proofs.Made.{read_back}
-use Rattle.trees.proofs.Splits.{no, both, both_hold, all_free, split_front, split_joined, joined_split, free_name, free_joined, free_escape, unescape_escape, escape_unescape}
+use Rattle.trees.proofs.Splits.{no, all_free, split_front, split_joined, joined_split, free_name, free_joined, free_escape, unescape_escape, escape_unescape}
 
 pub never : {P A : Type 0} {a : A} → none ≡ some a → P
 never e = let z : ◌≡◌ {A = ℕ} 0 1 = cc in absurd (omega arith)
@@ -92,16 +93,16 @@ accepted bs ms = go (leb (length bs) 32768)
 
 fit_bytes : (n : Name) → fit n ≡ true → name_bytes n ≡ true
 fit_bytes n e =
-    let a = both (leb 1 (length n)) (leb (length n) 32 && (not (dots n) && name_bytes n)) e in
-    let b = both (leb (length n) 32) (not (dots n) && name_bytes n) a.1 in
-    (both (not (dots n)) (name_bytes n) b.1).1
+    let a = and_parts (leb 1 (length n)) (leb (length n) 32 && (not (dots n) && name_bytes n)) e in
+    let b = and_parts (leb (length n) 32) (not (dots n) && name_bytes n) a.1 in
+    (and_parts (not (dots n)) (name_bytes n) b.1).1
 
 -- fit names hold no separators
 fit_free : (z : ℕ) → name_byte z ≡ false → (p : List Name) → all_fit p ≡ true → all_free z p ≡ true
 fit_free z f [] e = refl
 fit_free z f (n ∷ p) e =
-    let a = both (fit n) (all_fit p) e in
-    both_hold (free z n) (all_free z p) (free_name z f n (fit_bytes n a.0)) (fit_free z f p a.1)
+    let a = and_parts (fit n) (all_fit p) e in
+    and_from (free z n) (all_free z p) (free_name z f n (fit_bytes n a.0)) (fit_free z f p a.1)
 
 free_content : (z : ℕ) → eqb 92 z ≡ false → eqb 110 z ≡ false → eqb 116 z ≡ false → ((b : ℕ) → plain b ≡ true → eqb b z ≡ false) → free z true_word ≡ true → free z false_word ≡ true → (c : Leaf) → free z (content c) ≡ true
 free_content z s n t p y w (text_leaf bs) = free_escape z s n t p bs
@@ -128,8 +129,8 @@ feed_kind empty_leaf = refl
 pub line_back : (n : Name) (p : List Name) (c : Leaf) → all_fit (n ∷ p) ≡ true → line_of (line_bytes (line (n ∷ p) c)) ≡ some (line (n ∷ p) c)
 line_back n p c f =
     let tabs : all_free 9 (joined 47 (n ∷ p) ∷ kind_mark c ∷ content c ∷ []) ≡ true =
-    both_hold (free 9 (joined 47 (n ∷ p))) (free 9 (kind_mark c) && (free 9 (content c) && true)) (free_joined 9 47 (n ∷ p) refl (fit_free 9 refl (n ∷ p) f))
-    (both_hold (free 9 (kind_mark c)) (free 9 (content c) && true) (tab_kind c) (both_hold (free 9 (content c)) true (free_content 9 refl refl refl plain_tab refl refl c) refl)) in
+    and_from (free 9 (joined 47 (n ∷ p))) (free 9 (kind_mark c) && (free 9 (content c) && true)) (free_joined 9 47 (n ∷ p) refl (fit_free 9 refl (n ∷ p) f))
+    (and_from (free 9 (kind_mark c)) (free 9 (content c) && true) (tab_kind c) (and_from (free 9 (content c)) true (free_content 9 refl refl refl plain_tab refl refl c) refl)) in
     let path : split 47 (joined 47 (n ∷ p)) ≡ n ∷ p = split_joined 47 n p (fit_free 47 refl (n ∷ p) f) in
     ap line_from (split_joined 9 (joined 47 (n ∷ p)) (kind_mark c ∷ content c ∷ []) tabs)
     ∙ (λ j. when (all_fit (path j)) (mapped (line (path j)) (leaf_back c j)))
@@ -147,13 +148,13 @@ feed_line : (l : Line) → good l ≡ true → free 10 (line_bytes l) ≡ true
 feed_line (line [] c) f = no (sym f)
 feed_line (line (n ∷ p) c) f =
     free_joined 10 9 (joined 47 (n ∷ p) ∷ kind_mark c ∷ content c ∷ []) refl
-    (both_hold (free 10 (joined 47 (n ∷ p))) (free 10 (kind_mark c) && (free 10 (content c) && true)) (free_joined 10 47 (n ∷ p) refl (fit_free 10 refl (n ∷ p) f))
-    (both_hold (free 10 (kind_mark c)) (free 10 (content c) && true) (feed_kind c) (both_hold (free 10 (content c)) true (free_content 10 refl refl refl plain_feed refl refl c) refl)))
+    (and_from (free 10 (joined 47 (n ∷ p))) (free 10 (kind_mark c) && (free 10 (content c) && true)) (free_joined 10 47 (n ∷ p) refl (fit_free 10 refl (n ∷ p) f))
+    (and_from (free 10 (kind_mark c)) (free 10 (content c) && true) (feed_kind c) (and_from (free 10 (content c)) true (free_content 10 refl refl refl plain_feed refl refl c) refl)))
 
 split_written : (ls : List Line) → all_good ls ≡ true → split 10 (written ls) ≡ map line_bytes ls ++ [] ∷ []
 split_written [] g = refl
 split_written (l ∷ ls) g =
-    let g2 = both (good l) (all_good ls) g in
+    let g2 = and_parts (good l) (all_good ls) g in
     split_front 10 (line_bytes l) (written ls) (feed_line l g2.0) ∙ ap (λ r. line_bytes l ∷ r) (split_written ls g2.1)
 
 good_back : (l : Line) → good l ≡ true → line_of (line_bytes l) ≡ some l
@@ -170,12 +171,12 @@ step_fill l ms ls ws e = go (step l ms) refl e
 pub file_back : (at : ℕ) (ms : Members) (ls : List Line) (ws : Members) → all_good ls ≡ true → fill ms ls ≡ ok ws → read_from at ms (map line_bytes ls ++ [] ∷ []) ≡ done ws
 file_back at ms [] ws g e = let w : ms ≡ ws = cc in ap done w
 file_back at ms (l ∷ []) ws g e =
-    let g2 = both (good l) true g in
+    let g2 = and_parts (good l) true g in
     let s = step_fill l ms [] ws e in
     ap (λ o. on_line at o ms (λ us. read_from (at + length (line_bytes l) + 1) us ([] ∷ []))) (good_back l g2.0)
     ∙ ap (λ r. on_step at r (λ us. done us)) s.1 ∙ file_back (at + length (line_bytes l) + 1) s.0 [] ws refl s.2
 file_back at ms (l ∷ k ∷ ls) ws g e =
-    let g2 = both (good l) (all_good (k ∷ ls)) g in
+    let g2 = and_parts (good l) (all_good (k ∷ ls)) g in
     let s = step_fill l ms (k ∷ ls) ws e in
     ap (λ o. on_line at o ms (λ us. read_from (at + length (line_bytes l) + 1) us (line_bytes k ∷ (map line_bytes ls ++ [] ∷ [])))) (good_back l g2.0)
     ∙ ap (λ r. on_step at r (λ us. read_from (at + length (line_bytes l) + 1) us (line_bytes k ∷ (map line_bytes ls ++ [] ∷ [])))) s.1 ∙ file_back (at + length (line_bytes l) + 1) s.0 (k ∷ ls) ws g2.1 s.2
@@ -194,18 +195,18 @@ good_path (line (n ∷ p) c) e = e
 
 good_paths : (ls : List Line) → all_good ls ≡ true → all_paths ls ≡ true
 good_paths [] e = refl
-good_paths (l ∷ ls) e = let a = both (good l) (all_good ls) e in both_hold (fit_path l) (all_paths ls) (good_path l a.0) (good_paths ls a.1)
+good_paths (l ∷ ls) e = let a = and_parts (good l) (all_good ls) e in and_from (fit_path l) (all_paths ls) (good_path l a.0) (good_paths ls a.1)
 
 below_good : (n : Name) (l : Line) → fit n ≡ true → fit_path l ≡ true → good (below n l) ≡ true
-below_good n (line p c) f e = both_hold (fit n) (all_fit p) f e
+below_good n (line p c) f e = and_from (fit n) (all_fit p) f e
 
 belows_good : (n : Name) (ls : List Line) → fit n ≡ true → all_paths ls ≡ true → all_good (map (below n) ls) ≡ true
 belows_good n [] f e = refl
-belows_good n (l ∷ ls) f e = let a = both (fit_path l) (all_paths ls) e in both_hold (good (below n l)) (all_good (map (below n) ls)) (below_good n l f a.0) (belows_good n ls f a.1)
+belows_good n (l ∷ ls) f e = let a = and_parts (fit_path l) (all_paths ls) e in and_from (good (below n l)) (all_good (map (below n) ls)) (below_good n l f a.0) (belows_good n ls f a.1)
 
 good_both : (ls ks : List Line) → all_good ls ≡ true → all_good ks ≡ true → all_good (ls ++ ks) ≡ true
 good_both [] ks e f = f
-good_both (l ∷ ls) ks e f = let a = both (good l) (all_good ls) e in both_hold (good l) (all_good (ls ++ ks)) a.0 (good_both ls ks a.1 f)
+good_both (l ∷ ls) ks e f = let a = and_parts (good l) (all_good ls) e in and_from (good l) (all_good (ls ++ ks)) a.0 (good_both ls ks a.1 f)
 
 some_paths : (ms : Members) → all_good (lines_of ms) ≡ true → all_paths (some_lines ms) ≡ true
 some_paths nil e = refl
@@ -220,8 +221,8 @@ mutual
   lines_good : (ms : Members) → all_named ms ≡ true → all_good (lines_of ms) ≡ true
   lines_good nil e = refl
   lines_good (cons n v ms) e =
-      let a = both (fit n) (named v && all_named ms) e in
-      let b = both (named v) (all_named ms) a.1 in
+      let a = and_parts (fit n) (named v && all_named ms) e in
+      let b = and_parts (named v) (all_named ms) a.1 in
       good_both (map (below n) (lines v)) (lines_of ms) (belows_good n (lines v) a.0 (paths_fit v b.0)) (lines_good ms b.1)
 
 pub reads : (ms : Members) → all_ordered ms ≡ true → within ms ≡ true → all_named ms ≡ true → length (listing (binding ms)) ≤ 32768 → read_tree (listing (binding ms)) ≡ done ms

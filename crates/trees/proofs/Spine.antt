@@ -1,5 +1,6 @@
 -- A line put behind others, by the path and the counts of the last line alone. Assumes nothing.
 use Rattle.std.proofs.Common.{◌≡◌, ℕ, zero, suc, ◌+◌, max, Bool, true, false, cond, ◌&&◌, leb, List, [], ◌∷◌, length, get_or, sym, refl, ap, ◌∙◌, subst, arith}
+use Rattle.std.proofs.lemmas.Bool.{and_parts}
 use mathlib.Core.Option.{Option, none, some}
 use Rattle.values.specs.Values.{Name, Value, text, truth, binding, Members, nil, cons, same_name, before, mapped}
 use Rattle.values.specs.Limits.{many, height, heights, small, all_small}
@@ -7,7 +8,6 @@ use Rattle.trees.specs.Lines.{Leaf, text_leaf, truth_leaf, empty_leaf, ok, bad, 
 use Rattle.trees.specs.Paths.{shared}
 use Rattle.trees.specs.Progress.{last_path, value_path, deeper_counts, value_counts, counts, place_behind, leaf_height, leaf_small, ones, bumped}
 use Rattle.values.proofs.Sameness.{name_test}
-use Rattle.trees.proofs.Splits.{both}
 use Rattle.trees.proofs.Order.{shared_end}
 
 -- a path where nothing was
@@ -98,11 +98,11 @@ swapped false false = refl
 pub few_here : (ms ws : Members) (n : Name) (p : List Name) (c : Leaf) (d : ℕ) → counts ws ≡ bumped d (counts ms) (n ∷ p) → (all_small ms ≡ true → all_small ws ≡ (leaf_small c && deep d (counts ms))) → small (binding ms) ≡ true → small (binding ws) ≡ (leaf_small c && leb (suc (get_or (counts ms) d 0)) 64)
 few_here ms ws n p c zero e f s =
     let one : many ws ≡ suc (many ms) = cc in
-    let s2 = both (leb (many ms) 64) (all_small ms) s in
+    let s2 = and_parts (leb (many ms) 64) (all_small ms) s in
     (λ j. leb (one j) 64 && f s2.1 j) ∙ swapped (leb (suc (many ms)) 64) (leaf_small c)
 few_here ms ws n p c (suc d) e f s =
     let same : many ws ≡ many ms = cc in
-    let s2 = both (leb (many ms) 64) (all_small ms) s in
+    let s2 = and_parts (leb (many ms) 64) (all_small ms) s in
     (λ j. (ap (λ k. leb k 64) same ∙ s2.0) j && f s2.1 j)
 
 -- a path that goes on in the last member's value
@@ -138,7 +138,7 @@ in_last m v n p c (some d) s (ws, g) = (
     path = λ j. sym ((name_test n m).0 s) j ∷ g.path j;
     counted = ap (λ q. 1 ∷ q) (there ws g.some_there [] (counts ws) ∙ g.counted);
     high = let h = g.high in omega arith;
-    few = λ e. and_true (small (binding ws)) ∙ g.few (both (small v) true e).0;
+    few = λ e. and_true (small (binding ws)) ∙ g.few (and_parts (small v) true e).0;
     some_there = refl;
   },
 )
@@ -152,7 +152,7 @@ behind_last m v n p c s b =
       path = ap (λ q. n ∷ q) (chain_path p c);
       counted = ap (λ q. 2 ∷ q) (chain_counts p c);
       high = omega arith;
-      few = λ e. ap (λ x. x && (small (chain p c) && true)) (both (small v) true e).0 ∙ and_true (small (chain p c)) ∙ chain_small p c ∙ sym (and_true (leaf_small c));
+      few = λ e. ap (λ x. x && (small (chain p c) && true)) (and_parts (small v) true e).0 ∙ and_true (small (chain p c)) ∙ chain_small p c ∙ sym (and_true (leaf_small c));
       some_there = refl;
     }
 
@@ -182,7 +182,7 @@ in_front m v x y us n p c (some d) (ws, g) = (
     path = there ws g.some_there (m ∷ value_path v) (last_path ws) ∙ g.path;
     counted = ap (λ q. suc (many ws) ∷ q) (there ws g.some_there (value_counts v) (deeper_counts ws)) ∙ bumped_more (cons x y us) ws n p d g.counted;
     high = let h = g.high in omega arith;
-    few = λ e. let e2 = both (small v) (all_small (cons x y us)) e in (λ j. e2.0 j && g.few e2.1 j) ∙ ap (λ b. leaf_small c && b) (deep_more d (many (cons x y us)) (suc (many (cons x y us))) (deeper_counts (cons x y us)));
+    few = λ e. let e2 = and_parts (small v) (all_small (cons x y us)) e in (λ j. e2.0 j && g.few e2.1 j) ∙ ap (λ b. leaf_small c && b) (deep_more d (many (cons x y us)) (suc (many (cons x y us))) (deeper_counts (cons x y us)));
     some_there = refl;
   },
 )

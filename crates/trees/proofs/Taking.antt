@@ -1,5 +1,6 @@
 -- A line taken up behind others: what the tests in the code say of the definition. Assumes nothing.
 use Rattle.std.proofs.Common.{◌≡◌, ℕ, zero, suc, ◌+◌, ◌-◌, ◌<◌, ◌≤◌, max, Bool, true, false, cond, ◌&&◌, leb, List, [], ◌∷◌, ◌++◌, length, get_or, take, replicate, IfSome, Some, None, Option as Answer, sym, refl, ap, ◌∙◌, subst, arith, Bor}
+use Rattle.std.proofs.lemmas.Bool.{and_parts}
 use mathlib.Core.Option.{Option, none, some}
 use Rattle.std.proofs.lemmas.Bool.Decides.{nat_tests}
 use Rattle.std.proofs.lemmas.List.{get_or-take, take-take, length-replicate}
@@ -13,7 +14,7 @@ use Rattle.trees.specs.Progress.{last_path, value_path, deeper_counts, value_cou
 use Rattle.trees.specs.Laws.{LinesAscend}
 use Rattle.trees.specs.Following.{placed, Last, Follows}
 use Rattle.trees.specs.declared.progress.Progress.{Progress}
-use Rattle.trees.proofs.Splits.{both, split_some}
+use Rattle.trees.proofs.Splits.{split_some}
 use Rattle.trees.proofs.Spine.{Grown, Outcome, puts, few_here}
 
 -- the paths part within both
@@ -97,7 +98,7 @@ is_leb a b e = grind (arith, nat_tests)
 
 within_grown : (ms : Members) (n : Name) (q : List Name) (c : Leaf) (d : ℕ) (ws : Members) → within ms ≡ true → Grown ms n q c d ws → within ws ≡ in_limits (length (n ∷ q)) c (get_or (counts ms) d 0)
 within_grown ms n q c d ws w g =
-    let w2 = both (leb (height (binding ms)) 16) (small (binding ms)) w in
+    let w2 = and_parts (leb (height (binding ms)) 16) (small (binding ms)) w in
     let top : leb (suc (heights ws)) 16 ≡ leb (suc (length q) + leaf_height c) 16 =
     ap (λ h. leb (suc h) 16) g.high ∙ high_test (heights ms) (length q + leaf_height c) (is_leb (suc (heights ms)) 16 w2.0) ∙ ap (λ h. leb h 16) (omega arith) in
     (λ j. top j && few_here ms ws n q c d g.counted g.few w2.1 j)

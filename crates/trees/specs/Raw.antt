@@ -1,8 +1,9 @@
 -- What a line as the file writes it stands for. Assumes nothing.
-use Rattle.std.specs.Prelude.{ℕ, List, [], Some, None, Option as Answer}
+use Rattle.std.specs.Prelude.{ℕ, List, [], Ok, Err, Result}
 use Rattle.std.proofs.Math.Option.{Option, none, some}
 use Rattle.trees.specs.Lines.{Leaf, text_leaf, truth_leaf, empty_leaf, Line, line}
 use Rattle.trees.specs.Files.{split, unescape}
+use Rattle.trees.specs.declared.escapes.Malformed.{Malformed}
 use Rattle.trees.specs.declared.lines.RawLeaf.{RawLeaf}
 use Rattle.trees.specs.declared.lines.RawLeaf.TheVariants.{Text, Truth, Empty}
 use Rattle.trees.specs.declared.lines.RawLine.{RawLine}
@@ -21,10 +22,10 @@ abbrev pub raw_line : RawLine → Line
 raw_line l = line (split 47 l.path.now) (raw_leaf l.leaf)
 
 -- what reading answers
-abbrev pub read_leaf : Answer RawLeaf → Option Leaf
-read_leaf None = none
-read_leaf (Some l) = some (raw_leaf l)
+abbrev pub read_leaf : Result RawLeaf Malformed → Option Leaf
+read_leaf (Ok l) = some (raw_leaf l)
+read_leaf (Err _) = none
 
-abbrev pub read_line : Answer RawLine → Option Line
-read_line None = none
-read_line (Some l) = some (raw_line l)
+abbrev pub read_line : Result RawLine Malformed → Option Line
+read_line (Ok l) = some (raw_line l)
+read_line (Err _) = none

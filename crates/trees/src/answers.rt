@@ -2,17 +2,20 @@
 ghost use Rattle.std.specs.Prelude.{◌≡◌};
 ghost use Rattle.trees.specs.Numbers.{number as number_of};
 
-// The rule that a tree file breaks.
+use crate::escapes::Malformed;
+use std::fmt;
+
+// The rule that a tree file breaks, by its number.
 #[derive(Clone, Copy, PartialEq, Eq, Debug)]
 pub enum Refusal {
     // The file has over 32,768 bytes.
-    TooLong,
+    TooLong = 1,
     // A line is no line, or a name is no name.
-    Malformed,
+    Malformed = 8,
     // A line does not stand behind the one before it, or goes on below an earlier path.
-    Disordered,
+    Disordered = 9,
     // A path, a text or the members of a binding pass their limit.
-    LimitPassed,
+    LimitPassed = 10,
 }
 
 impl Refusal {
@@ -20,16 +23,41 @@ impl Refusal {
     pub fn number(self) -> u8
         ensures { result ≡ number_of self }
     {
-        match self {
-            Refusal::TooLong => 1,
-            Refusal::Malformed => 8,
-            Refusal::Disordered => 9,
-            Refusal::LimitPassed => 10,
-        }
+        self as u8
     }
 }
 
-// A refusal with its place: the first byte of the line, or 0 for the file.
+// The rule in plain words.
+impl fmt::Display for Refusal {
+    ghost use Rattle.std.specs.Prelude.{Some};
+    ghost use Rattle.trees.specs.Numbers.{sentence};
+
+    ghost output = { λ refusal. Some (sentence refusal) };
+
+    fn fmt<W: fmt::Write>(&self, f: &mut fmt::Formatter<W>) -> fmt::Result {
+        f.write_str(match self {
+            Refusal::TooLong => "the file is longer than 32,768 bytes",
+            Refusal::Malformed => "this is no line of a tree file, or a name in it is no name",
+            Refusal::Disordered =>
+                "this line does not stand behind the one before it, or goes on below an earlier path",
+            Refusal::LimitPassed => "a path, a text or the members of a binding pass their limit",
+        })
+    }
+}
+
+// A line that is none is refused as malformed.
+impl From<Malformed> for Refusal {
+    ghost use Rattle.trees.specs.declared.answers.Refusal.{Refusal};
+
+    ghost from_gives = { λ _ refusal. refusal ≡ Refusal.Malformed };
+
+    fn from(_malformed: Malformed) -> Self {
+        Self::Malformed
+    }
+}
+
+// A refusal with its place: the first byte of the line, or 0 for the file. The reader of models has its own of two fields: one for both
+// would need a crate below both.
 #[derive(Clone, Copy, PartialEq, Eq, Debug)]
 pub struct Refused {
     pub refusal: Refusal,

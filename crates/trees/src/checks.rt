@@ -10,10 +10,11 @@ use crate::parts::cut;
 use crate::progress::Progress;
 
 // The most bytes that a tree file may have.
-const MAX_FILE: usize = 32768;
+pub const MAX_FILE: usize = 32768;
 
 // Checks any bytes as a tree file: accepted, or refused by the first line that breaks a rule, with the place of its first byte.
 // An accepted file is, byte for byte, the listing of the value read from it, and that value is one by the rules.
+#[tactic(auto, using(crate::proofs::Taking::lines_ascend, crate::proofs::Accepting::lines_agree))]
 pub fn check(bytes: &[u8]) -> Result<(), Refused>
     ensures judged { Judges (read_tree bytes.now) result }
     ensures listed { OnOk result (listing (value_read bytes.now) ≡ bytes.now) }
@@ -41,9 +42,9 @@ pub fn check(bytes: &[u8]) -> Result<(), Refused>
                 place,
             });
         };
-        if let Err(refusal) = progress.read(lines.first) {
-            return Err(Refused { refusal, place });
-        }
+        progress
+            .read(lines.first)
+            .map_err(|refusal| Refused { refusal, place })?;
         left = rest;
     }
 }

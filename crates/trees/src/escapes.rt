@@ -3,18 +3,12 @@ ghost use Rattle.std.specs.Prelude.{◌≡◌};
 ghost use Rattle.trees.specs.Files.{unescape};
 ghost use Rattle.trees.specs.Contents.{Begins, pair_byte, counted};
 
-// What a content begins with.
-#[derive(Clone, Copy)]
-pub enum Front<'a> {
-    // Nothing: the content is at its end.
-    End,
-    // A byte of the text, and the content behind it.
-    Byte(u8, &'a [u8]),
-    // No way to write a byte of a text.
-    Wrong,
-}
+// Bytes that are no line of a tree file, or no part of one.
+#[derive(Clone, Copy, PartialEq, Eq, Debug)]
+pub struct Malformed;
 
-// The byte that a backslash and the byte after it stand for.
+// The byte that a backslash and the byte after it stand for. Models have other escapes; a set of them as a parameter would be longer than
+// this function and that of models.
 fn escaped_byte(b: u8) -> Option<u8>
     ensures { result ≡ pair_byte b }
 {
@@ -26,37 +20,31 @@ fn escaped_byte(b: u8) -> Option<u8>
     }
 }
 
-// Takes the first byte of the text off its content.
-pub fn next_byte(content: &[u8]) -> Front<'_>
+// The first byte of the text and the content behind it, or none at the content's end.
+pub fn next_byte(content: &[u8]) -> Result<Option<(u8, &[u8])>, Malformed>
     ensures { Begins content.now result }
 {
     match content {
-        [] => Front::End,
-        [b'\\', b, rest @ ..] => match escaped_byte(*b) {
-            Some(byte) => Front::Byte(byte, rest),
-            None => Front::Wrong,
-        },
-        [b'\\'] => Front::Wrong,
-        [b'\n', ..] => Front::Wrong,
-        [b'\t', ..] => Front::Wrong,
-        [b, rest @ ..] => Front::Byte(*b, rest),
+        [] => Ok(None),
+        [b'\\', b, rest @ ..] => {
+            let byte = escaped_byte(*b).ok_or(Malformed)?;
+            Ok(Some((byte, rest)))
+        }
+        [b'\\' | b'\n' | b'\t', ..] => Err(Malformed),
+        [b, rest @ ..] => Ok(Some((*b, rest))),
     }
 }
 
-// How many bytes the text has, or none if the content is malformed.
-pub fn text_len(content: &[u8]) -> Option<usize>
+// How many bytes the text has. It counts by hand: a step takes one byte or two
+// and may be refused, so that an iterator for it would have to be written.
+pub fn text_len(content: &[u8]) -> Result<usize, Malformed>
     ensures { result ≡ counted 0 (unescape content.now) }
 {
     let mut left = content;
     let mut len = 0;
-    loop {
-        match next_byte(left) {
-            Front::End => return Some(len),
-            Front::Wrong => return None,
-            Front::Byte(_, rest) => {
-                len += 1;
-                left = rest;
-            }
-        }
+    while let Some((_, rest)) = next_byte(left)? {
+        len += 1;
+        left = rest;
     }
+    Ok(len)
 }

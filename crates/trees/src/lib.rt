@@ -13,8 +13,8 @@ mod steps;
 mod tree;
 
 pub use crate::answers::{Refusal, Refused};
-pub use crate::checks::check;
-pub use crate::escapes::{Front, next_byte};
+pub use crate::checks::{MAX_FILE, check};
+pub use crate::escapes::{Malformed, next_byte};
 pub use crate::examples::examples_hold;
 pub use crate::parts::{Parts, cut};
 pub use crate::paths::{count_names, is_path};

@@ -5,10 +5,9 @@ ghost use Rattle.trees.specs.Lines.{text_leaf};
 ghost use Rattle.trees.specs.Files.{unescape, truth_of, empty_of, leaf_of, line_of};
 ghost use Rattle.trees.specs.Raw.{read_leaf, read_line};
 
-use crate::escapes::text_len;
+use crate::escapes::{Malformed, text_len};
 use crate::parts::cut;
 use crate::paths::is_path;
-use values::same;
 
 // What stands at the end of a line's path, as the file writes it.
 #[derive(Clone, Copy)]
@@ -27,78 +26,60 @@ pub struct RawLine<'a> {
     pub leaf: RawLeaf<'a>,
 }
 
-// A text by its content, or none if that is malformed.
-fn text_leaf(content: &[u8]) -> Option<RawLeaf<'_>>
+// A text by its content.
+fn text_leaf(content: &[u8]) -> Result<RawLeaf<'_>, Malformed>
     ensures { read_leaf result ≡ mapped text_leaf (unescape content.now) }
 {
-    match text_len(content) {
-        Some(_) => Some(RawLeaf::Text(content)),
-        None => None,
-    }
+    text_len(content)?;
+    Ok(RawLeaf::Text(content))
 }
 
 // A truth value by its word.
-fn truth_leaf<'a>(word: &[u8]) -> Option<RawLeaf<'a>>
+fn truth_leaf<'a>(word: &[u8]) -> Result<RawLeaf<'a>, Malformed>
     ensures { read_leaf result ≡ truth_of word.now }
 {
-    if same(word, b"TRUE") {
-        Some(RawLeaf::Truth(true))
-    } else if same(word, b"FALSE") {
-        Some(RawLeaf::Truth(false))
-    } else {
-        None
+    match word {
+        b"TRUE" => Ok(RawLeaf::Truth(true)),
+        b"FALSE" => Ok(RawLeaf::Truth(false)),
+        _ => Err(Malformed),
     }
 }
 
 // The empty binding, which has no content.
-fn empty_leaf<'a>(content: &[u8]) -> Option<RawLeaf<'a>>
+fn empty_leaf<'a>(content: &[u8]) -> Result<RawLeaf<'a>, Malformed>
     ensures { read_leaf result ≡ empty_of content.now }
 {
-    if same(content, b"") {
-        Some(RawLeaf::Empty)
-    } else {
-        None
+    match content {
+        [] => Ok(RawLeaf::Empty),
+        _ => Err(Malformed),
     }
 }
 
-// What a kind and a content stand for, or none.
-fn read_leaf<'a>(kind: &[u8], content: &'a [u8]) -> Option<RawLeaf<'a>>
+// What a kind and a content stand for.
+fn read_leaf<'a>(kind: &[u8], content: &'a [u8]) -> Result<RawLeaf<'a>, Malformed>
     ensures { read_leaf result ≡ leaf_of kind.now content.now }
 {
-    if same(kind, b"t") {
-        text_leaf(content)
-    } else if same(kind, b"b") {
-        truth_leaf(content)
-    } else if same(kind, b"e") {
-        empty_leaf(content)
-    } else {
-        None
+    match kind {
+        b"t" => text_leaf(content),
+        b"b" => truth_leaf(content),
+        b"e" => empty_leaf(content),
+        _ => Err(Malformed),
     }
 }
 
-// Reads a line, which stands without its line feed; none if it is malformed.
-pub fn read_line(bytes: &[u8]) -> Option<RawLine<'_>>
+// Reads a line, which stands without its line feed.
+pub fn read_line(bytes: &[u8]) -> Result<RawLine<'_>, Malformed>
     ensures { read_line result ≡ line_of bytes.now }
 {
-    let fields = cut(bytes, b'\t');
-    let Some(behind_path) = fields.rest else {
-        return None;
-    };
-    let kind = cut(behind_path, b'\t');
-    let Some(content) = kind.rest else {
-        return None;
-    };
-    if let Some(_) = cut(content, b'\t').rest {
-        return None;
+    let path = cut(bytes, b'\t');
+    let kind = cut(path.rest.ok_or(Malformed)?, b'\t');
+    let content = kind.rest.ok_or(Malformed)?;
+    if cut(content, b'\t').rest.is_some() || !is_path(path.first) {
+        return Err(Malformed);
     }
-    if !is_path(fields.first) {
-        return None;
-    }
-    match read_leaf(kind.first, content) {
-        Some(leaf) => Some(RawLine {
-            path: fields.first,
-            leaf,
-        }),
-        None => None,
-    }
+    let leaf = read_leaf(kind.first, content)?;
+    Ok(RawLine {
+        path: path.first,
+        leaf,
+    })
 }

@@ -1,4 +1,4 @@
-// Parts between separators: lines, the fields of a line, the names of a path.
+// Parts between separators: lines, and the fields of a line.
 ghost use Rattle.trees.specs.Cuts.{Cuts};
 
 // The bytes in front of the first separator, and those behind it if there is one.
@@ -12,16 +12,14 @@ pub struct Parts<'a> {
 pub fn cut(bytes: &[u8], separator: u8) -> Parts<'_>
     ensures { Cuts separator bytes.now result }
 {
-    for i in 0..bytes.len() {
-        if bytes[i] == separator {
-            return Parts {
-                first: &bytes[0..i],
-                rest: Some(&bytes[i + 1..bytes.len()]),
-            };
-        }
-    }
-    Parts {
-        first: bytes,
-        rest: None,
+    match bytes.iter().position(|b| *b == separator) {
+        Some(end) => Parts {
+            first: &bytes[..end],
+            rest: Some(&bytes[end + 1..]),
+        },
+        None => Parts {
+            first: bytes,
+            rest: None,
+        },
     }
 }

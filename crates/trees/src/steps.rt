@@ -12,13 +12,7 @@ use crate::escapes::text_len;
 use crate::lines::{RawLeaf, RawLine, read_line};
 use crate::paths::{count_names, shared_names};
 use crate::progress::Progress;
-
-// The most that a value may have: names in a path, bytes in a text, members in a binding.
-const MAX_HEIGHT: usize = 16;
-
-const MAX_TEXT: usize = 1024;
-
-const MAX_MEMBERS: u8 = 64;
+use values::{GREATEST_HEIGHT, LONGEST_TEXT, MOST_MEMBERS};
 
 // What a leaf adds to the height of its path.
 fn height(leaf: RawLeaf<'_>) -> usize
@@ -27,7 +21,7 @@ fn height(leaf: RawLeaf<'_>) -> usize
 {
     match leaf {
         RawLeaf::Empty => 1,
-        _ => 0,
+        RawLeaf::Text(_) | RawLeaf::Truth(_) => 0,
     }
 }
 
@@ -35,12 +29,9 @@ fn height(leaf: RawLeaf<'_>) -> usize
 fn is_small(leaf: RawLeaf<'_>) -> bool
     ensures { result ≡ leaf_small (raw_leaf leaf.entry) }
 {
-    let RawLeaf::Text(content) = leaf else {
-        return true;
-    };
-    match text_len(content) {
-        Some(len) => len <= MAX_TEXT,
-        None => true,
+    match leaf {
+        RawLeaf::Text(content) => text_len(content).unwrap_or(0) <= LONGEST_TEXT,
+        RawLeaf::Truth(_) | RawLeaf::Empty => true,
     }
 }
 
@@ -49,9 +40,12 @@ fn within_limits(names: usize, leaf: RawLeaf<'_>, count: u8) -> bool
     requires { names ≤ 16 }
     ensures { result ≡ in_limits names (raw_leaf leaf.entry) count }
 {
-    names + height(leaf) <= MAX_HEIGHT && is_small(leaf) && count < MAX_MEMBERS
+    names + height(leaf) <= GREATEST_HEIGHT as usize
+        && is_small(leaf)
+        && (count as usize) < MOST_MEMBERS
 }
 
+// The members read so far do not follow from what is kept, so no model gives them, and clauses take them as `ms`.
 impl<'a> Progress<'a> {
     // Nothing read yet.
     pub fn new() -> Self
@@ -59,7 +53,7 @@ impl<'a> Progress<'a> {
     {
         Progress {
             last: None,
-            counts: [0; 16],
+            counts: [0; GREATEST_HEIGHT as usize],
         }
     }
 
@@ -83,23 +77,18 @@ impl<'a> Progress<'a> {
         ensures last { self.new.last ≡ self.old.last }
     {
         self.counts[shared] += 1;
-        for k in shared + 1..names {
-            self.counts[k] = 1;
-        }
+        self.counts[shared + 1..names].fill(1);
     }
 
     // Takes up a line behind the others, or says which rule it breaks.
     fn take_line(&mut self, line: RawLine<'a>) -> Result<(), Refusal>
         ensures { (ms : Members) → Follows ms self.old → Takes (raw_line line.entry) ms result self.new }
     {
-        let Some(shared) = self.place(line.path) else {
-            return Err(Refusal::Disordered);
-        };
+        let shared = self.place(line.path).ok_or(Refusal::Disordered)?;
         let names = count_names(line.path);
-        if names > MAX_HEIGHT {
-            return Err(Refusal::LimitPassed);
-        }
-        if !within_limits(names, line.leaf, self.counts[shared]) {
+        if names > GREATEST_HEIGHT as usize
+            || !within_limits(names, line.leaf, self.counts[shared])
+        {
             return Err(Refusal::LimitPassed);
         }
         self.count_member(shared, names);
@@ -111,9 +100,7 @@ impl<'a> Progress<'a> {
     pub fn read(&mut self, bytes: &'a [u8]) -> Result<(), Refusal>
         ensures { (ms : Members) → Follows ms self.old → Reads bytes.now ms result self.new }
     {
-        match read_line(bytes) {
-            Some(line) => self.take_line(line),
-            None => Err(Refusal::Malformed),
-        }
+        let line = read_line(bytes)?;
+        self.take_line(line)
     }
 }

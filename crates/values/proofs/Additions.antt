@@ -4,11 +4,11 @@ use Rattle.std.specs.List.{insert}
 use Rattle.std.proofs.ByRecursion.{All-from_get_or}
 use Rattle.std.proofs.lemmas.Bool.{and_from, eq-eqb, le-leb}
 use Rattle.std.proofs.lemmas.List.{length-append, length-take-le, take-take, take_at, take_all, get_or-take, get_or_append_left, get_or_push, length_push}
-use Rattle.values.specs.Values.{Value, text, binding}
+use Rattle.values.specs.Values.{Value, truth, text, binding}
 use Rattle.values.specs.Limits.{height, proper}
 use Rattle.values.specs.Table.{holds, known, members_of, spent, text_bytes, own_members}
 use Rattle.values.specs.Nodes.{part, node_value, node_values, placed, sound_node, begins, sound_nodes}
-use Rattle.values.specs.Index.{text_key, binding_key, node_key, key_at, sound_index, Gap}
+use Rattle.values.specs.Index.{truth_key, text_key, binding_key, node_key, key_at, sound_index, Gap}
 use Rattle.values.specs.declared.parts.Member.{Member}
 use Rattle.values.specs.declared.nodes.Span.{Span}
 use Rattle.values.specs.declared.nodes.Node.{Node}
@@ -67,9 +67,24 @@ added bs cs ms ls ns is x v p s ix l a =
       values = values;
     }
 
+-- a truth value more
+pub truth_added : (bs cs : List ℕ) (ms ls : List Member) (ns : List Node) (is : List ℕ) (b : Bool) (p : ℕ) → Sound bs ms ns → Indexed (key_at bs ms ns) (length ns) is → length is ≡ length ns → cs ≡ bs → ls ≡ ms → holds (truth b) (node_values bs ms ns) ≡ false → Gap (key_at bs ms ns) is (truth_key b) p → Parts cs ls (ns ++ Truth b ∷ []) (insert is p (length ns)) (node_values bs ms ns ++ truth b ∷ [])
+truth_added bs cs ms ls ns is b p so ix l e f fresh gap =
+    rw (e, f) (added bs bs ms ms ns is (Truth b) (truth b) p so ix l
+    (record {
+      agree = record { bytes = refl; bytes_long = omega arith; members = refl; members_long = omega arith };
+      bytes = omega arith;
+      members = omega arith;
+      place = refl;
+      value = refl;
+      fresh = fresh;
+      right = refl;
+      gap = gap;
+    }))
+
 -- a text more
-pub text_added : (bs cs : List ℕ) (ms : List Member) (ns : List Node) (is : List ℕ) (s : Span) (t : List ℕ) (p : ℕ) → Sound bs ms ns → Indexed (key_at bs ms ns) (length ns) is → length is ≡ length ns → cs ≡ bs ++ t → s.start ≡ length bs → s.len ≡ length t → holds (text t) (node_values bs ms ns) ≡ false → length t ≤ 1024 → Gap (key_at bs ms ns) is (text_key t) p → Parts cs ms (ns ++ Text s ∷ []) (insert is p (length ns)) (node_values bs ms ns ++ text t ∷ [])
-text_added bs cs ms ns is s t p so ix l e f g fresh small gap =
+pub text_added : (bs cs : List ℕ) (ms : List Member) (ns : List Node) (is : List ℕ) (s : Span) (t : List ℕ) (p : ℕ) → Sound bs ms ns → Indexed (key_at bs ms ns) (length ns) is → length is ≡ length ns → cs ≡ bs ++ t → s.start ≡ length bs → s.len ≡ length t → holds (text t) (node_values bs ms ns) ≡ false → proper (text t) ≡ true → Gap (key_at bs ms ns) is (text_key t) p → Parts cs ms (ns ++ Text s ∷ []) (insert is p (length ns)) (node_values bs ms ns ++ text t ∷ [])
+text_added bs cs ms ns is s t p so ix l e f g fresh right gap =
     let here : part cs s ≡ t = ap (λ x. part x s) e ∙ part_end bs t s f g in
     let long : length cs ≡ length bs + length t = ap length e ∙ length-append bs t in
     let T = node_values bs ms ns in
@@ -81,7 +96,7 @@ text_added bs cs ms ns is s t p so ix l e f g fresh small gap =
       place = and_from (eqb s.start (spent text_bytes T)) (leb (s.start + s.len) (length cs)) (eq-eqb s.start (spent text_bytes T) (f ∙ sym so.texts)) (le-leb (s.start + s.len) (length cs) (omega arith));
       value = ap text here;
       fresh = fresh;
-      right = and_from (leb (length t) 1024) true (le-leb (length t) 1024 small) refl;
+      right = right;
       gap = subst (λ k. Gap (key_at bs ms ns) is (text_key k) p) (sym here) gap;
     })
 

@@ -1,23 +1,23 @@
 -- What a look-up tells of the values, and what entering answers. Assumes nothing.
-use Rattle.std.proofs.Common.{◌≡◌, ℕ, ◌<◌, ◌≤◌, Bool, true, false, cond, ◌&&◌, leb, List, [], ◌∷◌, ◌++◌, length, get_or, Ok, Err, vec_items, vec_len, MatchBool, Result, sym, refl, ap, ◌∙◌, subst, arith}
+use Rattle.std.proofs.Common.{◌≡◌, ℕ, ◌<◌, ◌≤◌, Bool, true, false, cond, ◌&&◌, List, [], ◌∷◌, ◌++◌, length, get_or, Some, Ok, Err, vec_items, vec_len, sym, refl, ap, ◌∙◌, ⊎_elim, arith}
 use mathlib.Core.Option.{none, some}
-use Rattle.std.proofs.lemmas.Bool.{le-leb, and_parts}
-use Rattle.values.specs.Limits.{height}
+use Rattle.std.proofs.lemmas.Bool.{and_parts, cases_lt}
 use Rattle.values.specs.Values.{Value, text, truth, binding, nth}
-use Rattle.values.specs.Table.{holds, under, spelt, is_text, known, well_named, members_of, fits, Enters, Refuses, EntersText, EntersBinding}
+use Rattle.values.specs.Table.{holds, under, spelt, is_text, known, well_named, members_of, content_value, known_content, fits, Enters}
 use Rattle.values.specs.Nodes.{part}
-use Rattle.values.specs.Index.{numbers, text_key, binding_key, node_key, Gap}
+use Rattle.values.specs.Index.{numbers, truth_key, text_key, binding_key, content_key, node_key, Gap}
 use Rattle.values.specs.Memory.{values, key_of}
 use Rattle.values.specs.declared.parts.Member.{Member}
-use Rattle.values.specs.declared.parts.Unentered.{Unentered}
-use Rattle.values.specs.declared.parts.Unentered.TheVariants.{TooLong, TooMany, TooHigh, Unfit, Full}
+use Rattle.values.specs.declared.parts.Content.{Content}
+use Rattle.values.specs.declared.parts.Content.TheVariants as content
+use Rattle.values.specs.declared.parts.Unentered.TheVariants.{Full}
 use Rattle.values.specs.declared.nodes.Node.{Node}
 use Rattle.values.specs.declared.nodes.Node.TheVariants.{Truth, Text, Binding}
 use Rattle.values.specs.declared.store.Table.{Table}
-use Rattle.values.proofs.Sameness.{clash, fails, nth_under, holds_under, holds_number, one_more}
+use Rattle.values.proofs.Sameness.{clash, fails, nth_under, under_nth, holds_under, holds_number, one_more}
 use Rattle.values.proofs.Meanings.{knows, Fact, binding_fact, OneNumber}
 use Rattle.values.proofs.Indexes.{no_number}
-use Rattle.values.proofs.InMemory.{fact_of, indexed_of, length_of, one_number_of}
+use Rattle.values.proofs.InMemory.{fact_of, indexed_of, length_of, nth_of, one_number_of}
 
 same_listed : (xs ys : List Member) → numbers xs ≡ numbers ys → xs ≡ ys
 same_listed [] [] e = refl
@@ -53,61 +53,83 @@ same_meant T o (x ∷ xs) (y ∷ ys) k l e =
     let r = same_meant T o xs ys a.rest b.rest re in
     (λ j. (record { name = p j; value = q j }) ∷ r j)
 
--- a node of a text's key has the text as its value, and the other way round
-key_to_text : (bs : List ℕ) (ms : List Member) (T : List Value) (i : ℕ) (n : Node) (s : List ℕ) → Fact bs ms T i n → node_key bs ms n ≡ text_key s → under T i ≡ text s
-key_to_text bs ms T i (Truth b) s f e = let z : ◌≡◌ {A = ℕ} 0 1 = cc in absurd (omega arith)
-key_to_text bs ms T i (Text p) s f e = let q : part bs p ≡ s = cc in f.value ∙ ap text q
-key_to_text bs ms T i (Binding p h) s f e = let z : ◌≡◌ {A = ℕ} 2 1 = cc in absurd (omega arith)
+-- a truth value, by its key
+truth_of_key : (a b : Bool) → truth_key a ≡ truth_key b → a ≡ b
+truth_of_key true true e = refl
+truth_of_key true false e = let z : ◌≡◌ {A = ℕ} 1 0 = cc in absurd (omega arith)
+truth_of_key false true e = let z : ◌≡◌ {A = ℕ} 0 1 = cc in absurd (omega arith)
+truth_of_key false false e = refl
 
-text_to_key : (bs : List ℕ) (ms : List Member) (T : List Value) (i : ℕ) (n : Node) (s : List ℕ) → Fact bs ms T i n → under T i ≡ text s → node_key bs ms n ≡ text_key s
-text_to_key bs ms T i (Truth b) s f e = let g : truth b ≡ text s = sym f.value ∙ e in let z : ◌≡◌ {A = ℕ} 0 1 = cc in absurd (omega arith)
-text_to_key bs ms T i (Text p) s f e = let g : text (part bs p) ≡ text s = sym f.value ∙ e in let q : part bs p ≡ s = cc in ap text_key q
-text_to_key bs ms T i (Binding p h) s f e = let g : binding (members_of _ (part ms p)) ≡ text s = sym f.value ∙ e in let z : ◌≡◌ {A = ℕ} 0 1 = cc in absurd (omega arith)
+-- a node of a content's key has what the content stands for as its value
+value_from_key : (bs : List ℕ) (ms : List Member) (T : List Value) (i : ℕ) (n : Node) (c : Content) → Fact bs ms T i n → node_key bs ms n ≡ content_key c → under T i ≡ content_value T c
+value_from_key bs ms T i (Truth a) (content.Truth b) f e = f.value ∙ ap truth (truth_of_key a b e)
+value_from_key bs ms T i (Truth a) (content.Text s) f e = let z : ◌≡◌ {A = ℕ} 0 1 = cc in absurd (omega arith)
+value_from_key bs ms T i (Truth a) (content.Binding xs) f e = let z : ◌≡◌ {A = ℕ} 0 2 = cc in absurd (omega arith)
+value_from_key bs ms T i (Text p) (content.Truth b) f e = let z : ◌≡◌ {A = ℕ} 1 0 = cc in absurd (omega arith)
+value_from_key bs ms T i (Text p) (content.Text s) f e = let q : part bs p ≡ s.now = cc in f.value ∙ ap text q
+value_from_key bs ms T i (Text p) (content.Binding xs) f e = let z : ◌≡◌ {A = ℕ} 1 2 = cc in absurd (omega arith)
+value_from_key bs ms T i (Binding p h) (content.Truth b) f e = let z : ◌≡◌ {A = ℕ} 2 0 = cc in absurd (omega arith)
+value_from_key bs ms T i (Binding p h) (content.Text s) f e = let z : ◌≡◌ {A = ℕ} 2 1 = cc in absurd (omega arith)
+value_from_key bs ms T i (Binding p h) (content.Binding xs) f e =
+    let q : numbers (part ms p) ≡ numbers xs.now = cc in
+    (binding_fact bs ms T i p h f).value ∙ ap (λ x. binding (members_of T x)) (same_listed (part ms p) xs.now q)
 
--- the same for bindings
-key_to_binding : (bs : List ℕ) (ms : List Member) (T : List Value) (i : ℕ) (n : Node) (xs : List Member) → Fact bs ms T i n → node_key bs ms n ≡ binding_key xs → under T i ≡ binding (members_of T xs)
-key_to_binding bs ms T i (Truth b) xs f e = let z : ◌≡◌ {A = ℕ} 0 2 = cc in absurd (omega arith)
-key_to_binding bs ms T i (Text p) xs f e = let z : ◌≡◌ {A = ℕ} 1 2 = cc in absurd (omega arith)
-key_to_binding bs ms T i (Binding p h) xs f e = let q : numbers (part ms p) ≡ numbers xs = cc in (binding_fact bs ms T i p h f).value ∙ ap (λ x. binding (members_of T x)) (same_listed (part ms p) xs q)
-
-binding_to_key : (bs : List ℕ) (ms : List Member) (T : List Value) (i : ℕ) (n : Node) (xs : List Member) → OneNumber T → known T xs ≡ true → Fact bs ms T i n → under T i ≡ binding (members_of T xs) → node_key bs ms n ≡ binding_key xs
-binding_to_key bs ms T i (Truth b) xs o k f e = let g : truth b ≡ binding (members_of T xs) = sym f.value ∙ e in let z : ◌≡◌ {A = ℕ} 0 1 = cc in absurd (omega arith)
-binding_to_key bs ms T i (Text p) xs o k f e = let g : text (part bs p) ≡ binding (members_of T xs) = sym f.value ∙ e in let z : ◌≡◌ {A = ℕ} 0 1 = cc in absurd (omega arith)
-binding_to_key bs ms T i (Binding p h) xs o k f e =
+-- the other way round
+key_from_value : (bs : List ℕ) (ms : List Member) (T : List Value) (i : ℕ) (n : Node) (c : Content) → OneNumber T → known_content T (Some c) ≡ true → Fact bs ms T i n → under T i ≡ content_value T c → node_key bs ms n ≡ content_key c
+key_from_value bs ms T i (Truth a) (content.Truth b) o k f e = let g : truth a ≡ truth b = sym f.value ∙ e in let q : a ≡ b = cc in ap truth_key q
+key_from_value bs ms T i (Truth a) (content.Text s) o k f e = let g : truth a ≡ text s.now = sym f.value ∙ e in let z : ◌≡◌ {A = ℕ} 0 1 = cc in absurd (omega arith)
+key_from_value bs ms T i (Truth a) (content.Binding xs) o k f e = let g : truth a ≡ binding (members_of T xs.now) = sym f.value ∙ e in let z : ◌≡◌ {A = ℕ} 0 1 = cc in absurd (omega arith)
+key_from_value bs ms T i (Text p) (content.Truth b) o k f e = let g : text (part bs p) ≡ truth b = sym f.value ∙ e in let z : ◌≡◌ {A = ℕ} 0 1 = cc in absurd (omega arith)
+key_from_value bs ms T i (Text p) (content.Text s) o k f e = let g : text (part bs p) ≡ text s.now = sym f.value ∙ e in let q : part bs p ≡ s.now = cc in ap text_key q
+key_from_value bs ms T i (Text p) (content.Binding xs) o k f e = let g : text (part bs p) ≡ binding (members_of T xs.now) = sym f.value ∙ e in let z : ◌≡◌ {A = ℕ} 0 1 = cc in absurd (omega arith)
+key_from_value bs ms T i (Binding p h) (content.Truth b) o k f e = let g : binding (members_of _ (part ms p)) ≡ truth b = sym f.value ∙ e in let z : ◌≡◌ {A = ℕ} 0 1 = cc in absurd (omega arith)
+key_from_value bs ms T i (Binding p h) (content.Text s) o k f e = let g : binding (members_of _ (part ms p)) ≡ text s.now = sym f.value ∙ e in let z : ◌≡◌ {A = ℕ} 0 1 = cc in absurd (omega arith)
+key_from_value bs ms T i (Binding p h) (content.Binding xs) o k f e =
     let b = binding_fact bs ms T i p h f in
-    let g : binding (members_of T (part ms p)) ≡ binding (members_of T xs) = sym b.value ∙ e in
-    let q : members_of T (part ms p) ≡ members_of T xs = cc in
-    ap binding_key (same_meant T o (part ms p) xs b.known k q)
+    let g : binding (members_of T (part ms p)) ≡ binding (members_of T xs.now) = sym b.value ∙ e in
+    let q : members_of T (part ms p) ≡ members_of T xs.now = cc in
+    ap binding_key (same_meant T o (part ms p) xs.now b.known k q)
+
+key_there : (t : Table) (c : Content) (i : ℕ) → known_content (values t) (Some c) ≡ true → i < vec_len t.nodes → under (values t) i ≡ content_value (values t) c → key_of t i ≡ content_key c
+key_there t c i k h e = key_from_value _ _ (values t) i (get_or (vec_items t.nodes) i (Truth false)) c (one_number_of t) k (fact_of t i (Truth false) h) e
 
 -- a value that is found
 pub record Found (T : List Value) (v : Value) (i : ℕ) : Type 0 where
   pub at : nth T i ≡ some v
   pub held : holds v T ≡ true
 
-found : (t : Table) (v : Value) (i : ℕ) → i < vec_len t.nodes → under (values t) i ≡ v → Found (values t) v i
-found t v i h e =
+pub found : (t : Table) (c : Content) (i : ℕ) → i < vec_len t.nodes → key_of t i ≡ content_key c → Found (values t) (content_value (values t) c) i
+found t c i h e =
     let l = length_of t in
-    record { at = nth_under (values t) i (omega arith) ∙ ap some e; held = holds_under (values t) v i (omega arith) e }
-
-pub text_found : (t : Table) (s : List ℕ) (i : ℕ) → i < vec_len t.nodes → key_of t i ≡ text_key s → Found (values t) (text s) i
-text_found t s i h e = found t (text s) i h (key_to_text _ _ (values t) i (get_or (vec_items t.nodes) i (Truth false)) s (fact_of t i (Truth false) h) e)
-
-pub binding_found : (t : Table) (xs : List Member) (i : ℕ) → i < vec_len t.nodes → key_of t i ≡ binding_key xs → Found (values t) (binding (members_of (values t) xs)) i
-binding_found t xs i h e = found t (binding (members_of (values t) xs)) i h (key_to_binding _ _ (values t) i (get_or (vec_items t.nodes) i (Truth false)) xs (fact_of t i (Truth false) h) e)
+    let v = value_from_key _ _ (values t) i (get_or (vec_items t.nodes) i (Truth false)) c (fact_of t i (Truth false) h) e in
+    record { at = nth_under (values t) i (omega arith) ∙ ap some v; held = holds_under (values t) (content_value (values t) c) i (omega arith) v }
 
 -- a value that is missing
-missing : (t : Table) (v : Value) (k : List ℕ) (p : ℕ) → Gap (key_of t) (vec_items t.index) k p → ((i : ℕ) → i < vec_len t.nodes → under (values t) i ≡ v → key_of t i ≡ k) → holds v (values t) ≡ false
-missing t v k p g same =
+pub missing : (t : Table) (c : Content) (p : ℕ) → known_content (values t) (Some c) ≡ true → Gap (key_of t) (vec_items t.index) (content_key c) p → holds (content_value (values t) c) (values t) ≡ false
+missing t c p k g =
+    let v = content_value (values t) c in
     fails (holds v (values t)) (λ e.
     let n = holds_number (values t) v e in
     let h : n.0 < vec_len t.nodes = omega (arith, n.1, length_of t) in
-    no_number (key_of t) (vec_len t.nodes) (vec_items t.index) k p n.0 (indexed_of t) g h (same n.0 h n.2))
+    no_number (key_of t) (vec_len t.nodes) (vec_items t.index) (content_key c) p n.0 (indexed_of t) g h (key_there t c n.0 k h n.2))
 
-pub text_missing : (t : Table) (s : List ℕ) (p : ℕ) → Gap (key_of t) (vec_items t.index) (text_key s) p → holds (text s) (values t) ≡ false
-text_missing t s p g = missing t (text s) (text_key s) p g (λ i h e. text_to_key _ _ (values t) i (get_or (vec_items t.nodes) i (Truth false)) s (fact_of t i (Truth false) h) e)
+-- what reading a number tells: its value and its key, or that it is not in the table
+pub record Tells (t : Table) (i : ℕ) (c : Content) : Type 0 where
+  pub there : i < vec_len t.nodes
+  pub value : under (values t) i ≡ content_value (values t) c
+  pub key : key_of t i ≡ content_key c
 
-pub binding_missing : (t : Table) (xs : List Member) (p : ℕ) → known (values t) xs ≡ true → Gap (key_of t) (vec_items t.index) (binding_key xs) p → holds (binding (members_of (values t) xs)) (values t) ≡ false
-binding_missing t xs p k g = missing t (binding (members_of (values t) xs)) (binding_key xs) p g (λ i h e. binding_to_key _ _ (values t) i (get_or (vec_items t.nodes) i (Truth false)) xs (one_number_of t) k (fact_of t i (Truth false) h) e)
+pub told : (t : Table) (i : ℕ) (c : Content) → some (content_value (values t) c) ≡ nth (values t) i → known_content (values t) (Some c) ≡ true → Tells t i c
+told t i c e k =
+    let u = under_nth (values t) i (content_value (values t) c) (sym e) in
+    let h : i < vec_len t.nodes = omega (arith, u.0, length_of t) in
+    record { there = h; value = u.1; key = key_there t c i k h u.1 }
+
+pub not_there : (t : Table) (i : ℕ) → none ≡ nth (values t) i → vec_len t.nodes ≤ i
+not_there t i e = ⊎_elim (λ h. let z : none ≡ some (under (values t) i) = e ∙ nth_of t i h in no_some z) (λ h. h) (cases_lt i (vec_len t.nodes))
+  where
+    no_some : {A : Type 0} {v : A} {P : Type 0} → none ≡ some v → P
+    no_some z = let y : ◌≡◌ {A = ℕ} 0 1 = cc in absurd (omega arith)
 
 -- what entering answers
 pub enters_old : (v : Value) (T : List Value) (i : ℕ) → Found T v i → Enters v T (Ok i) T
@@ -120,22 +142,6 @@ enters_new v T U i h f e g =
 pub enters_full : (v : Value) (T : List Value) → holds v T ≡ false → fits v T ≡ false → Enters v T (Err Full) T
 enters_full v T h f = ((λ j. cond (h j) (some T) (cond (f j) (some (T ++ v ∷ [])) none)), refl, refl)
 
-yes : (b : Bool) (P Q : Type 0) → b ≡ true → P → MatchBool b P Q
-yes b P Q e p = subst (λ x. MatchBool x P Q) (sym e) p
-
--- a text that is not too long
-pub short_enters : (s : List ℕ) (T : List Value) (r : Result ℕ Unentered) (U : List Value) → length s ≤ 1024 → Enters (text s) T r U → EntersText s T r U
-short_enters s T r U h e = yes (leb (length s) 1024) (Enters (text s) T r U) (Refuses TooLong T r U) (le-leb (length s) 1024 h) e
-
 -- members that are fit
 pub fit_parts : (ms : List Member) (T : List Value) → true ≡ (known T ms && well_named T ms) → (known T ms ≡ true) × (well_named T ms ≡ true)
 fit_parts ms T e = and_parts (known T ms) (well_named T ms) (sym e)
-
--- a binding that keeps the rules
-pub proper_enters : (ms : List Member) (T : List Value) (r : Result ℕ Unentered) (U : List Value) → length ms ≤ 64 → true ≡ (known T ms && well_named T ms) → height (binding (members_of T ms)) ≤ 16 → Enters (binding (members_of T ms)) T r U → EntersBinding ms T r U
-proper_enters ms T r U h k l e =
-    let high = height (binding (members_of T ms)) in
-    let entered = Enters (binding (members_of T ms)) T r U in
-    let low = MatchBool (leb high 16) entered (Refuses TooHigh T r U) in
-    yes (leb (length ms) 64) (MatchBool (known T ms && well_named T ms) low (Refuses Unfit T r U)) (Refuses TooMany T r U) (le-leb (length ms) 64 h)
-    (yes (known T ms && well_named T ms) low (Refuses Unfit T r U) (sym k) (yes (leb high 16) entered (Refuses TooHigh T r U) (le-leb high 16 l) e))

@@ -1,13 +1,13 @@
 -- A table in memory: its values, and its invariant in terms of them. Assumes nothing.
-use Rattle.std.proofs.Common.{◌≡◌, ℕ, ◌+◌, ◌<◌, ◌≤◌, Bool, true, false, List, [], ◌∷◌, ◌++◌, length, get_or, take, drop, vec_items, vec_len, Decides, sym, refl, ap, ◌∙◌, subst, arith}
+use Rattle.std.proofs.Common.{◌≡◌, ℕ, ◌+◌, ◌<◌, ◌≤◌, Bool, true, false, ltb, List, [], ◌∷◌, ◌++◌, length, get_or, take, drop, vec_items, vec_len, Decides, sym, refl, ap, ◌∙◌, subst, arith}
 use mathlib.Core.Option.{some, none}
-use Rattle.std.proofs.lemmas.Bool.{and_parts}
-use Rattle.std.proofs.lemmas.List.{get_or_default, get_or_past, get_or_read_under}
+use Rattle.std.proofs.lemmas.Bool.{and_parts, ltb-true, ltb-false}
+use Rattle.std.proofs.lemmas.List.{get_or_past, get_or_read_under}
 use Rattle.values.specs.Limits.{proper, height}
-use Rattle.values.specs.Values.{Name, Value, truth, nth, same_value, before, child, and_then}
+use Rattle.values.specs.Values.{Value, truth, nth, same_value, before}
 use Rattle.values.specs.Table.{under}
 use Rattle.values.specs.Nodes.{node_values, sound_nodes}
-use Rattle.values.specs.Index.{sound_index, node_key, all_before, all_after}
+use Rattle.values.specs.Index.{sound_index, all_before, all_after}
 use Rattle.values.specs.Memory.{values, key_of}
 use Rattle.values.specs.declared.parts.Member.{Member}
 use Rattle.values.specs.declared.nodes.Span.{Span}
@@ -18,10 +18,6 @@ use Rattle.values.proofs.Sameness.{clash, same_is, same_self, nth_under, nth_pas
 use Rattle.values.proofs.Propers.{AllProper, low_from_proper}
 use Rattle.values.proofs.Indexes.{Indexed, indexed_from_test, all_below_at, up_to, from_on}
 use Rattle.values.proofs.Meanings.{Sound, sound_from_test, length_values, OneNumber, one_number, Fact, fact, TextFact, text_fact, BindingFact, binding_fact}
-
-pub values_are : (t : Table) → values t ≡ node_values (vec_items t.bytes) (vec_items t.members) (vec_items t.nodes)
-unfolding values
-values_are t = refl
 
 pub sound_of : (t : Table) → Sound (vec_items t.bytes) (vec_items t.members) (vec_items t.nodes)
 sound_of t = sound_from_test (vec_items t.bytes) (vec_items t.members) (vec_items t.nodes) t.sound
@@ -67,23 +63,31 @@ newly bs ms n0 n1 n2 i0 i1 i2 a b c d e f g h =
     let q : i2 ≡ 1 ∷ 0 ∷ [] = h ∙ ap (λ x. x ++ 0 ∷ []) (g ∙ ap (λ x. x ++ 1 ∷ []) f) in
     rw (a, b, p, q) newly_so
 
+-- a read of the nodes that finds one, or none
+pub record Item (t : Table) (i : ℕ) (n : Node) : Type 0 where
+  pub there : i < vec_len t.nodes
+  pub is : n ≡ get_or (vec_items t.nodes) i n
+
+pub item : (t : Table) (i : ℕ) (ns : List Node) (n : Node) → ns ≡ vec_items t.nodes → true ≡ ltb i (length ns) → n ≡ get_or ns i n → Item t i n
+item t i ns n e h f =
+    let k = ltb-true i (length ns) (sym h) in
+    record { there = omega (arith, t.nodes.ok.0, ap length e); is = f ∙ ap (λ l. get_or l i n) e }
+
+pub item_past : (t : Table) (i : ℕ) (ns : List Node) → ns ≡ vec_items t.nodes → false ≡ ltb i (length ns) → vec_len t.nodes ≤ i
+item_past t i ns e h = let k = ltb-false i (length ns) (sym h) in omega (arith, t.nodes.ok.0, ap length e)
+
 -- the value under a number, by the node that stands there
-fact_at : (t : Table) (i : ℕ) (n m : Node) → i < vec_len t.nodes → n ≡ get_or (vec_items t.nodes) i n → n ≡ m → Fact (vec_items t.bytes) (vec_items t.members) (values t) i m
-fact_at t i n m h e f = subst (λ x. Fact (vec_items t.bytes) (vec_items t.members) (values t) i x) (sym e ∙ f) (fact_of t i n h)
+pub fact_at : (t : Table) (i : ℕ) (n m : Node) → Item t i n → n ≡ m → Fact (vec_items t.bytes) (vec_items t.members) (values t) i m
+fact_at t i n m a f = subst (λ x. Fact (vec_items t.bytes) (vec_items t.members) (values t) i x) (sym a.is ∙ f) (fact_of t i n a.there)
 
-pub truth_at : (t : Table) (i : ℕ) (b : Bool) (n : Node) → i < vec_len t.nodes → n ≡ get_or (vec_items t.nodes) i n → n ≡ Truth b → under (values t) i ≡ truth b
-truth_at t i b n h e f = (fact_at t i n (Truth b) h e f).value
+pub truth_at : (t : Table) (i : ℕ) (b : Bool) (n : Node) → Item t i n → n ≡ Truth b → under (values t) i ≡ truth b
+truth_at t i b n a f = (fact_at t i n (Truth b) a f).value
 
-pub text_at : (t : Table) (i : ℕ) (s : Span) (n : Node) → i < vec_len t.nodes → n ≡ get_or (vec_items t.nodes) i n → n ≡ Text s → TextFact (vec_items t.bytes) (values t) i s
-text_at t i s n h e f = text_fact (vec_items t.bytes) (vec_items t.members) (values t) i s (fact_at t i n (Text s) h e f)
+pub text_at : (t : Table) (i : ℕ) (s : Span) (n : Node) → Item t i n → n ≡ Text s → TextFact (vec_items t.bytes) (values t) i s
+text_at t i s n a f = text_fact (vec_items t.bytes) (vec_items t.members) (values t) i s (fact_at t i n (Text s) a f)
 
-pub binding_at : (t : Table) (i : ℕ) (s : Span) (k : ℕ) (n : Node) → i < vec_len t.nodes → n ≡ get_or (vec_items t.nodes) i n → n ≡ Binding s k → BindingFact (vec_items t.members) (values t) i s k
-binding_at t i s k n h e f = binding_fact (vec_items t.bytes) (vec_items t.members) (values t) i s k (fact_at t i n (Binding s k) h e f)
-
--- its key
-pub key_at_node : (t : Table) (i : ℕ) (n m : Node) → i < vec_len t.nodes → n ≡ get_or (vec_items t.nodes) i n → n ≡ m → node_key (vec_items t.bytes) (vec_items t.members) m ≡ key_of t i
-key_at_node t i n m h e f =
-    ap (node_key (vec_items t.bytes) (vec_items t.members)) (sym f ∙ e ∙ get_or_default (vec_items t.nodes) i n (Truth false) (omega (arith, t.nodes.ok.0)))
+pub binding_at : (t : Table) (i : ℕ) (s : Span) (k : ℕ) (n : Node) → Item t i n → n ≡ Binding s k → BindingFact (vec_items t.members) (values t) i s k
+binding_at t i s k n a f = binding_fact (vec_items t.bytes) (vec_items t.members) (values t) i s k (fact_at t i n (Binding s k) a f)
 
 pub nth_of : (t : Table) (i : ℕ) → i < vec_len t.nodes → nth (values t) i ≡ some (under (values t) i)
 nth_of t i h = nth_under (values t) i (omega (arith, length_of t))
@@ -129,7 +133,3 @@ all_proper_of t i h = (fact_of t i (Truth false) (omega (arith, length_of t))).r
 
 pub low_of : (t : Table) (i : ℕ) → i < vec_len t.nodes → height (under (values t) i) ≤ 16
 low_of t i h = low_from_proper (under (values t) i) (fact_of t i (Truth false) h).right
-
--- the child of a value, by the value under a number
-pub child_of : (t : Table) (i : ℕ) (v : Value) (name : Name) → i < vec_len t.nodes → v ≡ under (values t) i → and_then (nth (values t) i) (child name) ≡ child name v
-child_of t i v name h e = ap (λ o. and_then o (child name)) (nth_of t i h ∙ ap some (sym e))

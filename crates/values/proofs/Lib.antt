@@ -1,4 +1,3 @@
-pub mod Dots
 pub mod Orders
 pub mod Sameness
 pub mod Indexes
@@ -10,3 +9,6 @@ pub mod Membership
 pub mod InMemory
 pub mod Findings
 pub mod Steps
+pub mod Contents
+pub mod Searches
+pub mod Ends

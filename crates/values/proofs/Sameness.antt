@@ -17,6 +17,10 @@ pub fails : (b : Bool) → (b ≡ true → ⊥) → b ≡ false
 fails true h = absurd (h refl)
 fails false h = refl
 
+-- names that differ are not the same
+pub differs : (s t : Name) → (s ≡ t → ⊥) → same_name s t ≡ false
+differs s t h = fails (same_name s t) (λ e. h ((name_test s t).0 e))
+
 mutual
   pub same_self : (v : Value) → same_value v v ≡ true
   same_self (text s) = (name_test s s).1 refl

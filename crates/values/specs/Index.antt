@@ -1,14 +1,15 @@
 -- The index of a table in memory: the numbers of all nodes, in the order of their keys. Assumes nothing.
-use Rattle.std.specs.Prelude.{◌≡◌, ℕ, zero, suc, ◌+◌, ◌<◌, ◌≤◌, Bool, true, false, cond, ◌&&◌, List, [], ◌∷◌, length, take, drop, ◌==◌, nat_lt, slice_index_or}
+use Rattle.std.specs.Prelude.{◌≡◌, ℕ, zero, suc, ◌+◌, ◌<◌, ◌≤◌, Bool, true, false, cond, ◌&&◌, List, [], ◌∷◌, length, take, drop, Ok, Err, Result, ◌==◌, nat_lt, slice_index_or}
+use Rattle.std.specs.declared.cmp.Ordering.TheVariants.{Less}
+use Rattle.std.specs.declared.cmp.Ordering.{Ordering}
 use Rattle.values.specs.Values.{before}
+use Rattle.values.specs.Order.{order}
 use Rattle.values.specs.Nodes.{part}
 use Rattle.values.specs.declared.parts.Member.{Member}
 use Rattle.values.specs.declared.parts.Content.{Content}
 use Rattle.values.specs.declared.parts.Content.TheVariants as content
 use Rattle.values.specs.declared.nodes.Node.{Node}
 use Rattle.values.specs.declared.nodes.Node.TheVariants.{Truth, Text, Binding}
-use Rattle.values.specs.declared.nodes.Place.{Place}
-use Rattle.values.specs.declared.nodes.Place.TheVariants.{At, Missing}
 
 -- the numbers of members, one after the other
 abbrev pub numbers : List Member → List ℕ
@@ -74,6 +75,10 @@ counted (suc n) is = below (suc n) is == suc n && counted n is
 unfoldable pub sound_index : List ℕ → List Member → List Node → List ℕ → Bool
 sound_index bs ms ns is = climbs (key_at bs ms ns) is && (all_below (length ns) is && counted (length ns) is)
 
+-- how the key of a number stands to a key; a number that no node has comes first
+abbrev pub side : (ℕ → List ℕ) → ℕ → List ℕ → ℕ → Ordering
+side key n k i = cond (nat_lt i n) (order (key i) k) Less
+
 -- the place of a key that no number of the index has
 pub record Gap (key : ℕ → List ℕ) (is : List ℕ) (k : List ℕ) (p : ℕ) : Type 0 where
   pub within : p ≤ length is
@@ -81,6 +86,6 @@ pub record Gap (key : ℕ → List ℕ) (is : List ℕ) (k : List ℕ) (p : ℕ)
   pub back : all_after key k (drop p is) ≡ true
 
 -- what looking for a key among n nodes answers: a number that has it, or the place where it is missing
-abbrev pub Finds : (ℕ → List ℕ) → ℕ → List ℕ → List ℕ → Place → Type 0
-Finds key n is k (At i) = (i < n) × (key i ≡ k)
-Finds key n is k (Missing p) = Gap key is k p
+abbrev pub Finds : (ℕ → List ℕ) → ℕ → List ℕ → List ℕ → Result ℕ ℕ → Type 0
+Finds key n is k (Ok i) = (i < n) × (key i ≡ k)
+Finds key n is k (Err p) = Gap key is k p

@@ -3,7 +3,8 @@ pub mod Limits
 pub mod Table
 pub mod Checks
 pub mod Nodes
+pub mod Contents
+pub mod Order
 pub mod Index
 pub mod Memory
-pub mod Order
 pub mod Examples

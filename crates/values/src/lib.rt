@@ -2,7 +2,6 @@
 #![tactic(auto)]
 
 mod checks;
-mod contents;
 mod cut;
 mod examples;
 mod find;

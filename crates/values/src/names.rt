@@ -17,40 +17,32 @@ pub fn is_name_byte(b: u8) -> bool
 fn all_name_bytes(bytes: &[u8]) -> bool
     ensures { result ≡ name_bytes bytes.now }
 {
-    for b in bytes {
-        if !is_name_byte(*b) {
-            return false;
-        }
-    }
-    true
+    bytes.iter().all(|b| is_name_byte(*b))
 }
 
 // Whether the bytes are `.` or `..`, which are no names.
 fn is_dots(bytes: &[u8]) -> bool
     ensures { result ≡ dots bytes.now }
 {
-    match bytes.len() {
-        1 => bytes[0] == b'.',
-        2 => bytes[0] == b'.' && bytes[1] == b'.',
-        _ => false,
-    }
+    matches!(bytes, b"." | b"..")
 }
 
 // Whether the bytes are a name: 1 to 32 name bytes, neither `.` nor `..`.
 pub fn is_name(bytes: &[u8]) -> bool
     ensures { result ≡ fit bytes.now }
 {
-    bytes.len() >= 1 && bytes.len() <= 32 && !is_dots(bytes) && all_name_bytes(bytes)
+    !bytes.is_empty() && bytes.len() <= 32 && !is_dots(bytes) && all_name_bytes(bytes)
 }
 
-// Whether two names, or any two runs of bytes, are the same.
+// Whether two names, or any two runs of bytes, are the same: `==` in the words of the definition, by one equation, for code that asks
+// for one word of many.
 pub fn same(a: &[u8], b: &[u8]) -> bool
     ensures { result ≡ same_name a.now b.now }
 {
     a == b
 }
 
-// Byte order, a shorter name before its extensions.
+// Byte order, a shorter name before its extensions: `cmp` in the words of the definition, by one equation.
 pub fn order(a: &[u8], b: &[u8]) -> Ordering
     ensures { result ≡ byte_order a.now b.now }
 {

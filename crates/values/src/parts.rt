@@ -18,14 +18,14 @@ pub const MOST_MEMBERS: usize = 64;
 pub const GREATEST_HEIGHT: u8 = 16;
 
 // A member of a binding: the number of its name, which is a text, and that of its value.
-#[derive(Clone, Copy, PartialEq, Eq, PartialOrd, Ord)]
+#[derive(Clone, Copy, Default, PartialEq, Eq, PartialOrd, Ord)]
 pub struct Member {
     pub name: Number,
     pub value: Number,
 }
 
-// What stands under a number.
-#[derive(Clone, Copy)]
+// What stands under a number. Truth values stand before texts, and those before bindings.
+#[derive(Clone, Copy, PartialEq, Eq, PartialOrd, Ord)]
 pub enum Content<'a> {
     Truth(bool),
     Text(&'a [u8]),

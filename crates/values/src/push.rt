@@ -1,70 +1,86 @@
 // Room for a value more, and appending one.
-ghost use Rattle.std.specs.Prelude.{◌≡◌, ◌+◌, ◌<◌, ◌≤◌, true, [], ◌∷◌, ◌++◌, length, vec_len};
-ghost use Rattle.values.specs.Values.{Value};
-ghost use Rattle.values.specs.Limits.{height as value_height};
-ghost use Rattle.values.specs.Table.{text_bytes, own_members, fits, known, well_named, members_of};
-ghost use Rattle.values.specs.Index.{text_key, binding_key, Gap};
+ghost use Rattle.std.specs.Prelude.{◌≡◌, ◌+◌, ◌≤◌, true, [], ◌∷◌, ◌++◌, length, vec_len, vec_capacity, Some};
+ghost use Rattle.values.specs.Limits.{height as value_height, proper};
+ghost use Rattle.values.specs.Table.{fits, content_value, known_content};
+ghost use Rattle.values.specs.Contents.{own_bytes, own_members, node_of};
+ghost use Rattle.values.specs.Index.{content_key, Gap};
 ghost use Rattle.values.specs.Memory.{values, key_of};
 
 use crate::nodes::{Node, Span};
-use crate::parts::{MAX_MEMBERS, MAX_TEXT, MAX_VALUES, Member, Number};
+use crate::parts::{Content, MAX_MEMBERS, MAX_TEXT, MAX_VALUES, Member, Number};
 use crate::store::Table;
 
+// How many bytes and members a content has of its own.
+fn sizes(content: Content<'_>) -> (usize, usize)
+    ensures { result ≡ (length (own_bytes content.entry), length (own_members content.entry)) }
+{
+    match content {
+        Content::Truth(_) => (0, 0),
+        Content::Text(text) => (text.len(), 0),
+        Content::Binding(members) => (0, members.len()),
+    }
+}
+
+// Appends items to a pool that has the memory for them.
+fn append<T: Copy>(pool: &mut Vec<T>, items: &[T]) -> Span
+    requires few { vec_len pool.old + length items.now ≤ 32768 }
+    requires room { vec_len pool.old + length items.now ≤ vec_capacity pool.old }
+    ensures start { result.start ≡ vec_len pool.old }
+    ensures len { result.len ≡ length items.now }
+    ensures items { pool.new.items ≡ pool.old.items ++ items.now }
+    ensures capacity { vec_capacity pool.old ≤ vec_capacity pool.new }
+{
+    let span = Span {
+        start: pool.len() as u16,
+        len: items.len() as u16,
+    };
+    let _ = pool.extend_from_slice(items);
+    span
+}
+
+// Appends what a content has of its own to the pools, which have the memory for it: the node of its value.
+fn store(content: Content<'_>, height: u8, bytes: &mut Vec<u8>, members: &mut Vec<Member>) -> Node
+    requires bytes { vec_len bytes.old + length (own_bytes content) ≤ 32768 }
+    requires members { vec_len members.old + length (own_members content) ≤ 4096 }
+    requires room_for_bytes { 32768 ≤ vec_capacity bytes.old }
+    requires room_for_members { 4096 ≤ vec_capacity members.old }
+    ensures node { result ≡ node_of content.entry height (vec_len bytes.old) (vec_len members.old) }
+    ensures bytes { bytes.new.items ≡ bytes.old.items ++ own_bytes content.entry }
+    ensures members { members.new.items ≡ members.old.items ++ own_members content.entry }
+    ensures room_for_bytes { 32768 ≤ vec_capacity bytes.new }
+    ensures room_for_members { 4096 ≤ vec_capacity members.new }
+{
+    match content {
+        Content::Truth(b) => Node::Truth(b),
+        Content::Text(text) => Node::Text(append(bytes, text)),
+        Content::Binding(list) => Node::Binding(append(members, list), height),
+    }
+}
+
 impl Table {
-    // Whether there is room for a value more, of so many bytes of text and so many members.
-    pub(crate) fn has_room(&self, text: usize, members: usize) -> bool
-        ensures is { (v : Value) → text_bytes v ≡ text → own_members v ≡ members → result ≡ fits v (values self.now) }
-        ensures room { result ≡ true → (vec_len self.now.nodes < 2048) × (vec_len self.now.bytes + text ≤ 32768) × (vec_len self.now.members + members ≤ 4096) }
+    // Whether there is room for a value more, of that content.
+    pub(crate) fn has_room(&self, content: Content<'_>) -> bool
+        ensures { result ≡ fits (content_value (values self.now) content.entry) (values self.now) }
     {
-        if self.nodes.len() >= MAX_VALUES {
-            return false;
-        }
-        if text > MAX_TEXT - self.bytes.len() {
-            return false;
-        }
-        members <= MAX_MEMBERS - self.members.len()
+        let (bytes, members) = sizes(content);
+        self.nodes.len() < MAX_VALUES
+            && bytes <= MAX_TEXT - self.bytes.len()
+            && members <= MAX_MEMBERS - self.members.len()
     }
 
-    // Appends a text that there is room for, and puts its number into the index. The memory for both is there.
-    pub(crate) fn push_text(&mut self, place: usize, text: &[u8]) -> Number
-        requires few { vec_len self.old.nodes < 2048 }
-        requires room { vec_len self.old.bytes + length text.now ≤ 32768 }
-        requires short { length text.now ≤ 1024 }
-        requires gap { Gap (key_of self.old) self.old.index.items (text_key text.now) place }
+    // Appends a value that there is room for, and puts its number into the index. The memory for both is there.
+    pub(crate) fn push(&mut self, place: usize, content: Content<'_>, height: u8) -> Number
+        requires room { fits (content_value (values self.old) content) (values self.old) ≡ true }
+        requires known { known_content (values self.old) (Some content) ≡ true }
+        requires right { proper (content_value (values self.old) content) ≡ true }
+        requires height { height ≡ value_height (content_value (values self.old) content) }
+        requires gap { Gap (key_of self.old) self.old.index.items (content_key content) place }
         ensures number { result ≡ length (values self.old) }
-        ensures after { values self.new ≡ values self.old ++ Value.text text.now ∷ [] }
+        ensures after { values self.new ≡ values self.old ++ content_value (values self.old) content.entry ∷ [] }
     {
         let number = self.nodes.len() as Number;
-        let span = Span {
-            start: self.bytes.len() as u16,
-            len: text.len() as u16,
-        };
-        let _ = self.bytes.extend_from_slice(text);
-        self.nodes.push_reserved(Node::Text(span));
-        let _ = self.index.insert(place, number);
-        number
-    }
-
-    // Appends a binding that there is room for, and puts its number into the index. The memory for both is there.
-    pub(crate) fn push_binding(&mut self, place: usize, members: &[Member], height: u8) -> Number
-        requires few { vec_len self.old.nodes < 2048 }
-        requires room { vec_len self.old.members + length members.now ≤ 4096 }
-        requires short { length members.now ≤ 64 }
-        requires known { known (values self.old) members.now ≡ true }
-        requires named { well_named (values self.old) members.now ≡ true }
-        requires height { height ≡ value_height (Value.binding (members_of (values self.old) members.now)) }
-        requires low { height ≤ 16 }
-        requires gap { Gap (key_of self.old) self.old.index.items (binding_key members.now) place }
-        ensures number { result ≡ length (values self.old) }
-        ensures after { values self.new ≡ values self.old ++ Value.binding (members_of (values self.old) members.now) ∷ [] }
-    {
-        let number = self.nodes.len() as Number;
-        let span = Span {
-            start: self.members.len() as u16,
-            len: members.len() as u16,
-        };
-        let _ = self.members.extend_from_slice(members);
-        self.nodes.push_reserved(Node::Binding(span, height));
+        let node = store(content, height, &mut self.bytes, &mut self.members);
+        self.nodes.push_reserved(node);
         let _ = self.index.insert(place, number);
         number
     }

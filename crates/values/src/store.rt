@@ -8,6 +8,9 @@ use crate::parts::{Member, Number};
 
 // Nodes stand in the order of their numbers, and refer to the pools of bytes and members.
 // The index has the numbers of all nodes in the order of their keys.
+// They are pools and numbers, since no call after `new` may allocate.
+// It has no `impl Model`, under which `self` in a contract would be its values alone: the private methods speak of nodes, pools
+// and index, and the public ones of its values, by `values`.
 #[derive(Drop)]
 pub struct Table {
     pub(crate) nodes: Vec<Node>,

@@ -1,13 +1,12 @@
 // The calls of the value table.
-ghost use Rattle.std.specs.Prelude.{◌≡◌, ◌<◌, max, true, false, [], ◌∷◌, length, take, IfOk};
+ghost use Rattle.std.specs.Prelude.{◌≡◌, ◌<◌, max, true, false, [], ◌∷◌, length, take, Some, IfOk};
 ghost use Rattle.std.proofs.Math.Option.{some};
 ghost use Rattle.values.specs.Values.{Value, same_value, nth, child, and_then};
-ghost use Rattle.values.specs.Limits.{proper as is_proper};
-ghost use Rattle.values.specs.Table.{EntersText, EntersBinding, shown, known_content, spelt, under, Numbered};
+ghost use Rattle.values.specs.Limits.{height as value_height, proper as is_proper};
+ghost use Rattle.values.specs.Table.{Enters, EntersText, EntersBinding, shown, content_value, known_content, spelt, under, Numbered};
 ghost use Rattle.values.specs.Memory.{values};
 
-use crate::cut::keep_below;
-use crate::nodes::{Node, Place};
+use crate::nodes::Node;
 use crate::parts::{
     Content, GREATEST_HEIGHT, LONGEST_TEXT, MAX_MEMBERS, MAX_TEXT, MAX_VALUES, MOST_MEMBERS,
     Member, Number, Unentered,
@@ -50,7 +49,8 @@ impl Table {
         if b { 0 } else { 1 }
     }
 
-    // Whether two numbers of the table stand for the same value: exactly if they are equal.
+    // Whether two numbers of the table stand for the same value: exactly if they are equal. It is `==` by name, since its contract is the
+    // theorem that equal numbers mean equal values.
     pub fn same(&self, a: Number, b: Number) -> bool
         ensures { (u v : Value) → nth (values self.now) a ≡ some u → nth (values self.now) b ≡ some v → result ≡ same_value u v }
     {
@@ -63,24 +63,24 @@ impl Table {
         ensures known { known_content (values self.now) result ≡ true }
         ensures proper { (v : Value) → nth (values self.now) n ≡ some v → is_proper v ≡ true }
     {
-        if (n as usize) < self.nodes.len() {
-            Some(self.content(n))
-        } else {
-            None
-        }
+        let content = match *self.nodes.get(n as usize)? {
+            Node::Truth(b) => Content::Truth(b),
+            Node::Text(s) => Content::Text(s.of(&self.bytes)),
+            Node::Binding(s, _) => Content::Binding(s.of(&self.members)),
+        };
+        Some(content)
     }
 
     // The bytes of the text under a number; none where there is no text.
     pub fn text(&self, n: Number) -> &[u8]
         ensures { result.now ≡ spelt (under (values self.now) n) }
     {
-        if n as usize >= self.nodes.len() {
+        let Some(content) = self.value(n) else {
             return &[];
-        }
-        match self.content(n) {
-            Content::Truth(_) => &[],
+        };
+        match content {
             Content::Text(text) => text,
-            Content::Binding(_) => &[],
+            _ => &[],
         }
     }
 
@@ -88,13 +88,9 @@ impl Table {
     pub fn member(&self, n: Number, name: &[u8]) -> Option<Number>
         ensures { Numbered (values self.now) (and_then (nth (values self.now) n) (child name.now)) result }
     {
-        if n as usize >= self.nodes.len() {
-            return None;
-        }
-        match self.content(n) {
-            Content::Truth(_) => None,
-            Content::Text(_) => None,
+        match self.value(n)? {
             Content::Binding(members) => self.member_in(members, name),
+            _ => None,
         }
     }
 
@@ -105,15 +101,7 @@ impl Table {
         if text.len() > LONGEST_TEXT {
             return Err(Unentered::TooLong);
         }
-        match self.find(Content::Text(text)) {
-            Place::At(number) => Ok(number),
-            Place::Missing(place) => {
-                if !self.has_room(text.len(), 0) {
-                    return Err(Unentered::Full);
-                }
-                Ok(self.push_text(place, text))
-            }
-        }
+        self.enter(Content::Text(text), 0)
     }
 
     // Enters a binding by its members: its number, or why it is not entered.
@@ -130,14 +118,20 @@ impl Table {
         if height > GREATEST_HEIGHT {
             return Err(Unentered::TooHigh);
         }
-        match self.find(Content::Binding(members)) {
-            Place::At(number) => Ok(number),
-            Place::Missing(place) => {
-                if !self.has_room(0, members.len()) {
-                    return Err(Unentered::Full);
-                }
-                Ok(self.push_binding(place, members, height))
-            }
+        self.enter(Content::Binding(members), height)
+    }
+
+    // Enters a content that keeps the rules, with its height.
+    fn enter(&mut self, content: Content<'_>, height: u8) -> Result<Number, Unentered>
+        requires known { known_content (values self.old) (Some content) ≡ true }
+        requires right { is_proper (content_value (values self.old) content) ≡ true }
+        requires height { height ≡ value_height (content_value (values self.old) content) }
+        ensures { Enters (content_value (values self.old) content.entry) (values self.old) result (values self.new) }
+    {
+        match self.find(content) {
+            Ok(number) => Ok(number),
+            Err(place) if self.has_room(content) => Ok(self.push(place, content, height)),
+            Err(_) => Err(Unentered::Full),
         }
     }
 
@@ -149,11 +143,10 @@ impl Table {
         if count >= self.nodes.len() {
             return;
         }
-        let text_end = self.text_end(count);
-        let members_end = self.members_end(count);
-        self.bytes.truncate(text_end);
-        self.members.truncate(members_end);
+        let (bytes, members) = self.ends(count);
+        self.bytes.truncate(bytes);
+        self.members.truncate(members);
         self.nodes.truncate(count);
-        keep_below(&mut self.index, count);
+        self.index.retain(|n| (*n as usize) < count);
     }
 }

@@ -1,19 +1,13 @@
-use Rattle.std.proofs.Common.{◌≡◌, ℕ, arith}
-use Rattle.ordered.proofs.Climbs.{stands_at}
+use Rattle.std.proofs.Common.{rules}
+use Rattle.std.specs.Ordering.{partial_lt}
+use Rattle.std.proofs.lemmas.List.Sorted.{IsPartitionPoint-from_clause}
+use Rattle.ordered.proofs.Climbs.{parted, stands_from}
 use Rattle.ordered.proofs.place.Goals as goal
 
-pub returns-in-Ok : goal.returns-in-Ok
-returns-in-Ok g c = record {
-  bound = omega (arith, c.in-Ok.ensures.bound);
-  stands = λ o up.
-      let f = c.in-Ok.ensures.found o up in
-      stands_at o c.args.keys.now up c.args.key.now c.in-Ok.i f.0 f.1;
-}
-
-pub returns-in-Err : goal.returns-in-Err
-returns-in-Err g c = record {
-  bound = c.in-Err.ensures.bound;
-  stands = λ o up.
-      let f = c.in-Err.ensures.found o up in
-      (f.1, λ j d h lt less. let e = f.2 j d h lt in let z : ◌≡◌ {A = ℕ} 0 1 = cc in omega arith);
-}
+pub returns-clause-stands : goal.returns-clause-stands
+returns-clause-stands g c o up =
+    let xs = c.args.keys.now in
+    let k = c.args.key.now in
+    let agrees = g.met.K.Ord.matches_partial_cmp in
+    stands_from o agrees xs up k c.partition_point.result
+    (IsPartitionPoint-from_clause (λ y. partial_lt g.K.PartialOrd.partial_cmp y k) xs c.partition_point.result c.partition_point.ensures.partitioned (parted o agrees xs up k) (λ a r f' called. search rules))

@@ -1,4 +1,4 @@
-use Rattle.std.proofs.Common.{◌≡◌, ℕ, ◌+◌, ◌*◌, ◌≤◌, List, length, take}
+use Rattle.std.proofs.Common.{ℕ, ◌+◌, ◌*◌, List, length}
 use Rattle.values.specs.Values.{Members}
 use Rattle.values.specs.Memory.{values}
 use Rattle.entering.specs.Levels.{Level}
@@ -17,8 +17,7 @@ decreases-enter_members l = 3 * l.levels + 2
 -- the members entered so far, and those to come
 abbrev pub invariant-enter_members-loop-table : goal.invariant-enter_members-loop-table
 invariant-enter_members-loop-table l =
-    (length l.members ≡ 64) × (l.count ≤ 64)
-    × ((ms : Members) (after : List ℕ) → Level l.prefix l.bytes l.levels ms after → Turn (values l.initial.table) l.prefix l.left l.levels (values l.table) (take l.count l.members) ms after)
+    (ms : Members) (after : List ℕ) → Level l.prefix l.bytes l.levels ms after → Turn (values l.initial.table) l.prefix l.left l.levels (values l.table) l.members.items ms after
 
 abbrev pub decreases-enter_members-loop-table : goal.decreases-enter_members-loop-table
 decreases-enter_members-loop-table l = length l.left

@@ -1,18 +1,19 @@
-use Rattle.std.proofs.Common.{sym, ◌∙◌, arith}
-use Rattle.trees.proofs.Order.{shorter}
-use Rattle.lookup.proofs.Following.{nothing_on, last_name, next_name}
+use Rattle.std.proofs.Common.{eqb, subst, arith, rules}
+use Rattle.std.proofs.lemmas.Iterator.Splits.{YieldsList-from_slice_split}
+use Rattle.std.proofs.lemmas.List.Splits.{length-slice_split}
+use Rattle.values.specs.Values.{nth}
+use Rattle.values.specs.Table.{Numbered}
+use Rattle.values.specs.Memory.{values}
+use Rattle.trees.proofs.Names.{split_is}
+use Rattle.lookup.specs.Finds.{looked}
+use Rattle.lookup.proofs.Following.{found}
 use Rattle.lookup.proofs.paths.find.Goals as goal
 
-pub returns-in_default : goal.returns-in_default
-returns-in_default c = sym c.loop-next.invariant ∙ nothing_on c.loop-next.left.now c.cut-names.result _ c.cut-names.ensures c.in_default.ensures
-
-pub returns-in_default-rest : goal.returns-in_default-rest
-returns-in_default-rest c =
-    let found = c.in-Some.ensures in
-    (last_name c.loop-next.left.now c.cut-names.result _ _ c.cut-names.ensures c.in_default-rest.is found.0 ∙ c.loop-next.invariant, found.1)
-
-pub loop-next-smaller : goal.loop-next-smaller
-loop-next-smaller c = omega (arith, shorter 47 c.loop-next.left.now c.cut-names.result c.in-Some-rest.rest c.cut-names.ensures c.in-Some-rest.is)
-
-pub loop-next-preserved : goal.loop-next-preserved
-loop-next-preserved c = next_name c.loop-next.left.now c.cut-names.result c.in-Some-rest.rest _ _ c.cut-names.ensures c.in-Some-rest.is c.in-Some.ensures.0 ∙ c.loop-next.invariant
+pub returns : goal.returns
+returns c =
+    let T = values c.args.table.now in
+    let bytes = c.args.path.now in
+    subst (λ p. Numbered T (looked (nth T c.args.root) p) c.try_fold.result) (split_is 47 bytes)
+    (found T _ c.args.root c.try_fold.result c.try_fold.ensures.ran
+    (YieldsList-from_slice_split _ (λ b. eqb b 47) bytes c.split.ensures.rest c.split.ensures.done c.split.ensures.closure (λ x b q k. search rules)) (omega (arith, length-slice_split (λ b. eqb b 47) bytes))
+    (λ at x v h k. search rules))

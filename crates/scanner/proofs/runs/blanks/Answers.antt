@@ -1,13 +1,12 @@
-use Rattle.std.proofs.Common.{sym, arith}
+use Rattle.std.proofs.Common.{rules}
+use Rattle.std.proofs.lemmas.Iterator.{YieldsList-from_slice}
+use Rattle.std.proofs.lemmas.Iterator.Search.{YieldsList-from_take_while}
+use Rattle.std.proofs.lemmas.Iterator.Consumers.{count_from_yields_List, YieldsList-at}
 use Rattle.grammar.specs.Tokens.{blank}
-use Rattle.scanner.proofs.Cuts.{front_more, front_stop, front_all}
+use Rattle.scanner.proofs.Cuts.{run_is}
 use Rattle.scanner.proofs.runs.blanks.Goals as goal
 
-pub loop-i-preserved : goal.loop-i-preserved
-loop-i-preserved c = let e = front_more blank c.args.bytes.now c.loop-i.i c.loop-i-test.true (sym c.if-is_blank.ensures) in (omega arith, omega (arith, c.loop-i.invariant.1))
-
-pub returns-else-is_blank : goal.returns-else-is_blank
-returns-else-is_blank c = let e = front_stop blank c.args.bytes.now c.loop-i.i c.loop-i-test.true (sym c.if-is_blank.ensures) in (omega (arith, c.loop-i.invariant.1), c.loop-i.invariant.0)
-
-pub returns-after-loop-i : goal.returns-after-loop-i
-returns-after-loop-i c = let e = front_all blank c.args.bytes.now c.loop-i.i c.loop-i-test.false in (omega (arith, c.loop-i.invariant.1), c.loop-i.invariant.0)
+pub returns : goal.returns
+returns c =
+    let items = YieldsList-at c.take_while.ensures.source (YieldsList-from_slice c.args.bytes.now c.iter.ensures.rest) in
+    run_is blank c.args.bytes.now c.count.result (count_from_yields_List _ c.count.result c.count.ensures.ran (YieldsList-from_take_while _ blank items c.take_while.ensures.closure c.take_while.ensures.done (λ x b q k. search rules)))

@@ -1,12 +1,17 @@
-use Rattle.std.proofs.Common.{arith}
-use Rattle.trees.proofs.Cutting.{free_more, cut_here, cut_nowhere}
+use Rattle.std.proofs.Common.{◌≡◌, rules, subst}
+use borrow.Author.Tests.{tests}
+use Rattle.std.proofs.lemmas.Iterator.{IsFirst-from_position, YieldsList-from_slice}
+use Rattle.trees.proofs.Cutting.{First, cut_here, cut_nowhere}
 use Rattle.trees.proofs.parts.cut.Goals as goal
 
-pub returns-then-bytes-i : goal.returns-then-bytes-i
-returns-then-bytes-i c = cut_here c.args.separator c.args.bytes.now c.loop-i.i c.loop-i-test.true c.if-bytes-i.true c.loop-i.invariant
+pub returns-in-Some : goal.returns-in-Some
+returns-in-Some c =
+    let z = c.args.separator in
+    let h = IsFirst-from_position _ _ c.position.result (λ b. b ≡ z) (λ b. b ≡ z → ⊥) c.position.ensures.ran (YieldsList-from_slice c.args.bytes.now c.iter.ensures.rest) (λ x q k. search (rules, tests)) (λ x q k. search (rules, tests)) in
+    cut_here z c.args.bytes.now c.in-Some.end (subst (First z c.args.bytes.now) c.in-Some.is h)
 
-pub loop-i-preserved : goal.loop-i-preserved
-loop-i-preserved c = free_more c.args.separator c.args.bytes.now c.loop-i.i c.loop-i-test.true c.if-bytes-i.false c.loop-i.invariant
-
-pub returns : goal.returns
-returns c = cut_nowhere c.args.separator c.args.bytes.now c.loop-i.i (omega arith) c.loop-i.invariant
+pub returns-in-None : goal.returns-in-None
+returns-in-None c =
+    let z = c.args.separator in
+    let h = IsFirst-from_position _ _ c.position.result (λ b. b ≡ z) (λ b. b ≡ z → ⊥) c.position.ensures.ran (YieldsList-from_slice c.args.bytes.now c.iter.ensures.rest) (λ x q k. search (rules, tests)) (λ x q k. search (rules, tests)) in
+    cut_nowhere z c.args.bytes.now (subst (First z c.args.bytes.now) c.in-None.is h)

@@ -1,15 +1,14 @@
-use Rattle.std.proofs.Common.{sym, ◌∙◌, arith}
-use Rattle.trees.proofs.Order.{unfit, fit_on, shorter}
+use Rattle.std.proofs.Common.{◌≡◌, true, false, eqb, ap, ◌∙◌, rules}
+use borrow.Author.Tests.{tests}
+use Rattle.std.proofs.lemmas.Iterator.{cases_from_all}
+use Rattle.std.proofs.lemmas.Iterator.Splits.{YieldsList-from_slice_split}
+use Rattle.values.specs.Limits.{fit}
+use Rattle.trees.specs.Files.{all_fit}
+use Rattle.trees.proofs.Names.{split_is, fit_is}
 use Rattle.trees.proofs.paths.is_path.Goals as goal
 
-pub returns-then-not-is_name : goal.returns-then-not-is_name
-returns-then-not-is_name c = unfit c.loop-names.left.now c.cut-names.result c.cut-names.ensures c.if-not-is_name.ensures ∙ c.loop-names.invariant
-
-pub returns-in-None : goal.returns-in-None
-returns-in-None c = sym (fit_on c.loop-names.left.now c.cut-names.result _ c.cut-names.ensures c.if-not-is_name.ensures c.in-None.is) ∙ c.loop-names.invariant
-
-pub loop-names-smaller : goal.loop-names-smaller
-loop-names-smaller c = omega (arith, shorter 47 c.loop-names.left.now c.cut-names.result c.in-Some.rest c.cut-names.ensures c.in-Some.is)
-
-pub loop-names-preserved : goal.loop-names-preserved
-loop-names-preserved c = sym (fit_on c.loop-names.left.now c.cut-names.result _ c.cut-names.ensures c.if-not-is_name.ensures c.in-Some.is) ∙ c.loop-names.invariant
+pub returns : goal.returns
+returns c =
+    fit_is c.all.result _ (cases_from_all _ _ c.all.result (λ n. fit n ≡ true) (λ n. fit n ≡ false) c.all.ensures.ran
+    (YieldsList-from_slice_split _ (λ b. eqb b 47) c.args.path.now c.split.ensures.rest c.split.ensures.done c.split.ensures.closure (λ x b q k. search rules)) (λ x q k. search (rules, tests)) (λ x q k. search (rules, tests)))
+    ∙ ap all_fit (split_is 47 c.args.path.now)

@@ -1,39 +1,61 @@
-use Rattle.std.proofs.Common.{◌≡◌, ◌+◌, Some, sym, ap, ◌∙◌, arith}
+use Rattle.std.proofs.Common.{◌≡◌, ◌+◌, suc, [], ◌∷◌, ◌++◌, eqb, length, drop, Some, sym, ap, ◌∙◌, length-append, arith, rules}
+use Rattle.std.proofs.lemmas.Iterator.{YieldsList-from_zip}
+use Rattle.std.proofs.lemmas.Iterator.Consumers.{YieldsList-from_enumerate, YieldsList-at}
+use Rattle.std.proofs.lemmas.Iterator.Splits.{YieldsList-from_slice_split}
+use Rattle.values.proofs.Orders.{compared}
 use Rattle.trees.specs.Files.{split}
 use Rattle.trees.specs.Contents.{answer}
 use Rattle.trees.specs.Paths.{shared}
-use Rattle.trees.proofs.Order.{ahead, ahead_none, ahead_more, turn_less, turn_greater, turn_equal, turn_below, turn_above, shorter}
+use Rattle.trees.proofs.Names.{parted, turn, past}
+use Rattle.trees.proofs.Order.{ahead, ahead_none, ahead_more, shared_less, shared_greater, shared_equal}
 use Rattle.trees.proofs.paths.shared_names.Goals as goal
 
-pub loop-old_rest-init : goal.loop-old_rest-init
-loop-old_rest-init c = (ahead_none (shared (split 47 c.args.before.now) (split 47 c.args.path.now)), omega arith)
+pub loop-count-init : goal.loop-count-init
+loop-count-init c = (
+  parted c.args.before.now c.args.path.now (YieldsList-at c.into_iter-count-iterator.ensures.into_iter_gives
+      (YieldsList-from_enumerate (YieldsList-at c.enumerate-count-items.ensures.source (YieldsList-from_zip
+      (YieldsList-at c.zip.ensures.first (YieldsList-from_slice_split _ (λ b. eqb b 47) c.args.before.now c.split-old_names.ensures.rest c.split-old_names.ensures.done c.split-old_names.ensures.closure (λ x b q k. search rules)))
+      (YieldsList-at c.zip.ensures.second (YieldsList-from_slice_split _ (λ b. eqb b 47) c.args.path.now c.split-new_names.ensures.rest c.split-new_names.ensures.done c.split-new_names.ensures.closure (λ x b q k. search rules)))))
+      c.enumerate-count-items.ensures.count)),
+  ahead_none (shared (split 47 c.args.before.now) (split 47 c.args.path.now)),
+)
 
 pub returns-in-Less : goal.returns-in-Less
 returns-in-Less c =
-    let n = c.loop-old_rest.count in
-    let same : n ≡ n + 0 = omega arith in
-    ap Some same ∙ ap answer (ap (ahead n) (sym (turn_less _ _ c.cut-old.result c.cut-new.result c.cut-old.ensures c.cut-new.ensures c.in-Less.ensures)) ∙ c.loop-old_rest.invariant.0)
+    let n = length c.loop-count.yielded in
+    let old = split 47 c.args.before.now in
+    let new = split 47 c.args.path.now in
+    let t = turn c.next.new.self old new c.loop-count.yielded c.next.result c.loop-count.invariant.0 c.loop-count.yielded_by _ c.in-Some.is c.next.ensures.steps in
+    let less = compared c.in-Some.old.now c.in-Some.new.now _ c.in-Less.ensures in
+    let same : c.in-Some.count ≡ n + 0 = omega (arith, t.0) in
+    ap Some same ∙ ap answer (ap (ahead n) (sym (t.1 ∙ shared_less c.in-Some.old.now c.in-Some.new.now (drop (suc n) old) (drop (suc n) new) less)) ∙ c.loop-count.invariant.1)
+
+pub loop-count-preserved : goal.loop-count-preserved
+loop-count-preserved c =
+    let xs = c.loop-count.yielded in
+    let n = length xs in
+    let old = split 47 c.args.before.now in
+    let new = split 47 c.args.path.now in
+    let on = shared (drop (suc n) old) (drop (suc n) new) in
+    let t = turn c.next.new.self old new xs c.next.result c.loop-count.invariant.0 c.loop-count.yielded_by _ c.in-Some.is c.next.ensures.steps in
+    let equal = compared c.in-Some.old.now c.in-Some.new.now _ c.in-Equal.ensures in
+    let longer : length (xs ++ (c.in-Some.count, (c.in-Some.old, c.in-Some.new)) ∷ []) ≡ suc n = length-append xs _ ∙ omega arith in
+    let suc_is : suc n ≡ n + 1 = omega arith in (
+      c.loop-count.invariant.0,
+      ap (λ k. ahead k (shared (drop k old) (drop k new))) longer ∙ ap (λ k. ahead k on) suc_is ∙ sym (ahead_more n on)
+          ∙ ap (ahead n) (sym (t.1 ∙ shared_equal c.in-Some.old.now c.in-Some.new.now (drop (suc n) old) (drop (suc n) new) equal)) ∙ c.loop-count.invariant.1,
+    )
 
 pub returns-in-Greater : goal.returns-in-Greater
 returns-in-Greater c =
-    ap answer (ap (ahead c.loop-old_rest.count) (sym (turn_greater _ _ c.cut-old.result c.cut-new.result c.cut-old.ensures c.cut-new.ensures c.in-Greater.ensures)) ∙ c.loop-old_rest.invariant.0)
+    let n = length c.loop-count.yielded in
+    let old = split 47 c.args.before.now in
+    let new = split 47 c.args.path.now in
+    let t = turn c.next.new.self old new c.loop-count.yielded c.next.result c.loop-count.invariant.0 c.loop-count.yielded_by _ c.in-Some.is c.next.ensures.steps in
+    let greater = compared c.in-Some.old.now c.in-Some.new.now _ c.in-Greater.ensures in
+    ap answer (ap (ahead n) (sym (t.1 ∙ shared_greater c.in-Some.old.now c.in-Some.new.now (drop (suc n) old) (drop (suc n) new) greater)) ∙ c.loop-count.invariant.1)
 
-pub returns-in_default : goal.returns-in_default
-returns-in_default c =
-    ap answer (ap (ahead c.loop-old_rest.count) (sym (turn_below _ _ c.cut-old.result c.cut-new.result c.cut-old.ensures c.cut-new.ensures c.in-Equal.ensures c.in_default.is)) ∙ c.loop-old_rest.invariant.0)
-
-pub returns-in_default-rest : goal.returns-in_default-rest
-returns-in_default-rest c =
-    ap answer (ap (ahead c.loop-old_rest.count) (sym (turn_above _ _ c.cut-old.result c.cut-new.result c.cut-old.ensures c.cut-new.ensures c.in-Equal.ensures c.in_default-rest.is)) ∙ c.loop-old_rest.invariant.0)
-
-pub loop-old_rest-smaller : goal.loop-old_rest-smaller
-loop-old_rest-smaller c = omega (arith, shorter 47 c.loop-old_rest.left.now c.cut-old.result c.in-Some.old_rest c.cut-old.ensures c.in-Some.is)
-
-pub loop-old_rest-preserved : goal.loop-old_rest-preserved
-loop-old_rest-preserved c =
-    let n = c.loop-old_rest.count in
-    let on = shared (split 47 c.in-Some.old_rest.now) (split 47 c.in-Some-rest.new_rest.now) in
-    let short = shorter 47 c.loop-old_rest.left.now c.cut-old.result c.in-Some.old_rest c.cut-old.ensures c.in-Some.is in (
-      sym (ahead_more n on) ∙ ap (ahead n) (sym (turn_equal _ _ c.cut-old.result c.cut-new.result _ _ c.cut-old.ensures c.cut-new.ensures c.in-Equal.ensures c.in-Some.is c.in-Some-rest.is)) ∙ c.loop-old_rest.invariant.0,
-      omega (arith, c.loop-old_rest.invariant.1),
-    )
+pub returns : goal.returns
+returns c =
+    let over = past c.next.new.self (split 47 c.args.before.now) (split 47 c.args.path.now) c.loop-count.yielded c.next.result c.loop-count.invariant.0 c.loop-count.yielded_by c.in-None.is c.next.ensures.steps in
+    ap answer (ap (ahead (length c.loop-count.yielded)) (sym over) ∙ c.loop-count.invariant.1)

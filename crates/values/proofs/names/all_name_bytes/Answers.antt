@@ -1,24 +1,14 @@
-use Rattle.std.proofs.Common.{◌≡◌, ◌+◌, true, ◌&&◌, get_or, drop, sym, ap, ◌∙◌, arith}
-use Rattle.std.proofs.lemmas.List.{at_drop_more, at_drop_all}
+use Rattle.std.proofs.Common.{◌≡◌, ◌&&◌, List, [], ◌∷◌, refl, ap, ◌∙◌, rules}
+use borrow.Author.Tests.{tests}
+use Rattle.std.specs.List.{list_all}
+use Rattle.std.proofs.lemmas.Iterator.{YieldsList-from_slice}
+use Rattle.std.proofs.lemmas.Iterator.Search.{all_from_yields_List}
 use Rattle.values.specs.Limits.{name_byte, name_bytes}
 use Rattle.values.proofs.names.all_name_bytes.Goals as goal
 
-pub returns-then-not-is_name_byte : goal.returns-then-not-is_name_byte
-returns-then-not-is_name_byte c =
-    let s = c.args.bytes.now in
-    let i = c.loop-b.b-index in
-    let e : name_bytes (drop i s) ≡ (name_byte (get_or s i 0) && name_bytes (drop (i + 1) s)) = at_drop_more name_bytes s i 0 c.loop-b-test.true in
-    ap (λ b. b && name_bytes (drop (i + 1) s)) c.if-not-is_name_byte.ensures ∙ sym e ∙ c.loop-b.invariant
-
-pub loop-b-preserved : goal.loop-b-preserved
-loop-b-preserved c =
-    let s = c.args.bytes.now in
-    let i = c.loop-b.b-index in
-    let e : name_bytes (drop i s) ≡ (name_byte (get_or s i 0) && name_bytes (drop (i + 1) s)) = at_drop_more name_bytes s i 0 c.loop-b-test.true in
-    ap (λ b. b && name_bytes (drop (i + 1) s)) c.if-not-is_name_byte.ensures ∙ sym e ∙ c.loop-b.invariant
+all_are : (s : List _) → list_all name_byte s ≡ name_bytes s
+all_are [] = refl
+all_are (b ∷ s) = ap (λ r. name_byte b && r) (all_are s)
 
 pub returns : goal.returns
-returns c =
-    let s = c.args.bytes.now in
-    let e : name_bytes (drop c.loop-b.b-index s) ≡ true = at_drop_all name_bytes s c.loop-b.b-index (omega arith) in
-    sym e ∙ c.loop-b.invariant
+returns c = all_from_yields_List name_byte _ _ c.all.result c.all.ensures.ran (YieldsList-from_slice c.args.bytes.now cc) (λ x b q k. search (rules, tests)) ∙ all_are c.args.bytes.now

@@ -1,16 +1,18 @@
-use Rattle.std.proofs.Common.{arith}
-use Rattle.std.proofs.lemmas.Bool.Decides.{nat_tests}
-use Rattle.values.proofs.Dots.{one_dot, two_dots, no_dots}
+use Rattle.std.proofs.Common.{◌≡◌, ℕ, ◌≤◌, Bool, true, false, ◌&&◌, ◌||◌, eqb, List, [], ◌∷◌, length, refl, arith}
+use Rattle.values.specs.Limits.{dots}
 use Rattle.values.proofs.names.is_dots.Goals as goal
 
-pub returns-in-1 : goal.returns-in-1
-returns-in-1 c = one_dot c.args.bytes.now (omega arith)
+-- three bytes are neither
+too_long : (s : List ℕ) → 3 ≤ length s → false ≡ dots s
+too_long [] h = absurd (omega arith)
+too_long (x ∷ []) h = absurd (omega arith)
+too_long (x ∷ y ∷ []) h = absurd (omega arith)
+too_long (x ∷ y ∷ z ∷ s) h = neither (eqb x 46) (eqb y 46)
+  where
+    neither : (a b : Bool) → false ≡ ((a && false) || (a && (b && false)))
+    neither true true = refl
+    neither true false = refl
+    neither false b = refl
 
-pub returns-then-bytes-eq46 : goal.returns-then-bytes-eq46
-returns-then-bytes-eq46 c = let e = two_dots c.args.bytes.now (omega arith) in grind (arith, nat_tests)
-
-pub returns-else-bytes-eq46 : goal.returns-else-bytes-eq46
-returns-else-bytes-eq46 c = let e = two_dots c.args.bytes.now (omega arith) in grind (arith, nat_tests)
-
-pub returns-in_default : goal.returns-in_default
-returns-in_default c = no_dots c.args.bytes.now (λ h. omega arith) (λ h. omega arith)
+pub returns-in_default-5 : goal.returns-in_default-5
+returns-in_default-5 c = too_long c.args.bytes.now c.in_default.len_at_least

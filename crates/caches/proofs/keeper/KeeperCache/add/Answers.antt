@@ -10,7 +10,7 @@ use Rattle.caches.proofs.keeper.KeeperCache.add.Goals.{After-enlist}
 pub returns-then-not-has_room : goal.returns-then-not-has_room
 returns-then-not-has_room c =
     let s = c.args.self.now in
-    let e = entry c.args.key c.args.product c.args.answers.now in
+    let e = entry c.args.offer.key c.args.offer.product c.args.offer.answers.now in
     let slots = vec_items s.slots in
     let row = vec_items s.answers in
     let es = slot_entries slots row in
@@ -19,10 +19,10 @@ returns-then-not-has_room c =
       exactly = (c.if-not-has_room.ensures ∙ room_is e slots row (vec_len s.slots) (vec_len s.answers) s.slots.ok.0 s.filled (subst (Fit slots) s.answers.ok.0 s.fit), refl);
     }
 
-few : (c : After-enlist) → (vec_len c.args.self.now.slots < 128) × (length c.args.answers.now ≤ 64) × (vec_len c.args.self.now.answers + length c.args.answers.now ≤ 1024)
-few c = room_facts (vec_len c.args.self.now.slots) (length c.args.answers.now) (vec_len c.args.self.now.answers + length c.args.answers.now) c.if-not-has_room.ensures
+few : (c : After-enlist) → (vec_len c.args.self.now.slots < 128) × (length c.args.offer.answers.now ≤ 64) × (vec_len c.args.self.now.answers + length c.args.offer.answers.now ≤ 1024)
+few c = room_facts (vec_len c.args.self.now.slots) (length c.args.offer.answers.now) (vec_len c.args.self.now.answers + length c.args.offer.answers.now) c.if-not-has_room.ensures
 
-row_is : (c : After-enlist) → (vec_items c.extend_from_slice.new.self ≡ vec_items c.args.self.now.answers ++ c.args.answers.now) × (vec_len c.extend_from_slice.new.self ≡ vec_len c.args.self.now.answers + length c.args.answers.now)
+row_is : (c : After-enlist) → (vec_items c.extend_from_slice.new.self ≡ vec_items c.args.self.now.answers ++ c.args.offer.answers.now) × (vec_len c.extend_from_slice.new.self ≡ vec_len c.args.self.now.answers + length c.args.offer.answers.now)
 row_is c =
     let h = few c in
     let ok = c.extend_from_slice.ensures.succeeds (omega (arith, h.2, c.args.self.now.room.1)) in
@@ -42,7 +42,7 @@ invariant_of-self c =
       room = (omega (arith, c.push_reserved.ensures.capacity, s.room.0), omega (arith, c.extend_from_slice.ensures.capacity, s.room.1), omega (arith, c.enlist.ensures.capacity, s.room.2));
       few = (omega (arith, c.push_reserved.ensures.len, h.0), omega (arith, t.1, h.2), omega (arith, c.enlist.ensures.len, c.push_reserved.ensures.len, s.few.2));
       fit = fit_grown slots slots' _ one (vec_len s.answers) (vec_len c.extend_from_slice.new.self) s.fit (omega (arith, t.1)) (omega (arith, t.1, c.len.ensures));
-      filled = lens_grown slots slots' _ one ∙ ap (λ n. n + length c.args.answers.now) s.filled ∙ sym t.1;
+      filled = lens_grown slots slots' _ one ∙ ap (λ n. n + length c.args.offer.answers.now) s.filled ∙ sym t.1;
       sorted = index.sorted;
       below = λ k d lt. omega (arith, index.below k d lt, c.len-entry.ensures, c.push_reserved.ensures.len);
       linked = λ k. linked_grown slots slots' _ one (vec_items s.index) (vec_items c.enlist.new.index) k c.len-entry.result (index.numbers k) (s.linked k) (omega (arith, c.len-entry.ensures, s.slots.ok.0));
@@ -54,14 +54,14 @@ returns c =
     let h = few here in
     let t = row_is here in
     let s = c.args.self.now in
-    let e = entry c.args.key c.args.product c.args.answers.now in
+    let e = entry c.args.offer.key c.args.offer.product c.args.offer.answers.now in
     let slots = vec_items s.slots in
     let row = vec_items s.answers in
     let es = slot_entries slots row in
     let slots' = vec_items c.push_reserved.new.self in
     let row' = vec_items c.extend_from_slice.new.self in
     let fit : Fit slots (length row) = subst (Fit slots) s.answers.ok.0 s.fit in
-    let is : slot_entries slots' row' ≡ es ++ e ∷ [] = entries_grown slots slots' _ c.push_reserved.ensures.items row row' c.args.answers.now t.0 fit (c.len.ensures ∙ s.answers.ok.0) refl in
+    let is : slot_entries slots' row' ≡ es ++ e ∷ [] = entries_grown slots slots' _ c.push_reserved.ensures.items row row' c.args.offer.answers.now t.0 fit (c.len.ensures ∙ s.answers.ok.0) refl in
     record {
       added = added_end e es es (slot_entries slots' row') (λ x m. m) is h.1;
       exactly = (c.if-not-has_room.ensures ∙ room_is e slots row (vec_len s.slots) (vec_len s.answers) s.slots.ok.0 s.filled fit, is);

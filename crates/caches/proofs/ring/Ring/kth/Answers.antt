@@ -1,22 +1,16 @@
-use Rattle.std.proofs.Common.{◌≡◌, take, drop, Some, None, vec_items, sym, ap, ◌∙◌, subst, MatchOption}
-use Rattle.caches.specs.Rings.{ring_entry}
-use Rattle.caches.proofs.Turnings.{ring_older, ring_newer}
+use Rattle.std.proofs.Common.{rules, ◌∙◌}
+use Rattle.std.specs.VecDeque.{deque_items}
+use Rattle.std.proofs.lemmas.Iterator.Consumers.{YieldsList-from_deque, YieldsList-from_filter, nth_from_yields_List}
+use Rattle.caches.specs.declared.ring_slots.RingSlot.{RingSlot}
+use Rattle.caches.specs.Keys.{same_key}
+use Rattle.caches.proofs.Derived.{key_eq_is}
+use Rattle.caches.proofs.Rings.{ring_kth}
 use Rattle.caches.proofs.ring.Ring.kth.Goals as goal
 
-pub returns-then-k-n : goal.returns-then-k-n
-returns-then-k-n c =
-    let s = c.args.self.now in
-    let slots = vec_items s.slots in
-    let older = c.split_at.result.1.now in
-    let newer = c.split_at.result.0.now in
-    let e = ring_older c.args.key slots older newer s.oldest (c.split_at.ensures.back ∙ ap (drop s.oldest) c.as_slice.ensures.value) (c.split_at.ensures.front ∙ ap (take s.oldest) c.as_slice.ensures.value) c.args.k c.count_in-n.result c.count_in-n.ensures c.if-k-n.true in
-    subst (λ x. MatchOption c.kth_in.result (x ≡ None) (λ t. x ≡ Some (ring_entry t.now))) (sym e) c.kth_in.ensures
-
-pub returns-else-k-n : goal.returns-else-k-n
-returns-else-k-n c =
-    let s = c.args.self.now in
-    let slots = vec_items s.slots in
-    let older = c.split_at.result.1.now in
-    let newer = c.split_at.result.0.now in
-    let e = ring_newer c.args.key slots older newer s.oldest (c.split_at.ensures.back ∙ ap (drop s.oldest) c.as_slice.ensures.value) (c.split_at.ensures.front ∙ ap (take s.oldest) c.as_slice.ensures.value) c.args.k c.count_in-n.result c.count_in-n.ensures c.if-k-n.false in
-    subst (λ x. MatchOption c.kth_in-else-k-n.result (x ≡ None) (λ t. x ≡ Some (ring_entry t.now))) (sym e) c.kth_in-else-k-n.ensures
+pub returns : goal.returns
+returns c =
+    let slots = deque_items c.args.self.now.slots in
+    let key = c.args.key in
+    ring_kth key slots c.nth.result c.from.result c.args.k c.from.ensures
+    (nth_from_yields_List c.nth.result _ c.from.result c.nth.ensures.ran
+    (YieldsList-from_filter _ (λ (t : RingSlot). same_key t.key key) (YieldsList-from_deque slots (cc)) c.filter.ensures.closure (λ x b q k. (search rules, search rules ∙ key_eq_is x.now.key key))))

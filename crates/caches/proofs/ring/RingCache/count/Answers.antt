@@ -1,14 +1,15 @@
-use Rattle.std.proofs.Common.{take, drop, vec_items, ap, ◌∙◌, arith}
-use Rattle.caches.proofs.Turnings.{ring_count, ring_bound}
+use Rattle.std.proofs.Common.{rules, ◌∙◌}
+use Rattle.std.specs.VecDeque.{deque_items}
+use Rattle.std.proofs.lemmas.Iterator.Consumers.{YieldsList-from_deque, YieldsList-from_filter, count_from_yields_List}
+use Rattle.caches.specs.declared.ring_slots.RingSlot.{RingSlot}
+use Rattle.caches.specs.Keys.{same_key}
+use Rattle.caches.proofs.Derived.{key_eq_is}
+use Rattle.caches.proofs.Rings.{ring_count}
 use Rattle.caches.proofs.ring.RingCache.count.Goals as goal
-
-pub overflow_add-result : goal.overflow_add-result
-overflow_add-result c =
-    let s = c.args.self.now in
-    let h = ring_bound c.args.key (vec_items s.slots) c.split_at.result.1.now c.split_at.result.0.now s.oldest (c.split_at.ensures.back ∙ ap (drop s.oldest) c.as_slice.ensures.value) (c.split_at.ensures.front ∙ ap (take s.oldest) c.as_slice.ensures.value) c.count_in.result c.count_in-2.result c.count_in.ensures c.count_in-2.ensures in
-    omega (arith, h, s.few, s.slots.ok.0)
 
 pub returns : goal.returns
 returns c =
-    let s = c.args.self.now in
-    ring_count c.args.key (vec_items s.slots) c.split_at.result.1.now c.split_at.result.0.now s.oldest (c.split_at.ensures.back ∙ ap (drop s.oldest) c.as_slice.ensures.value) (c.split_at.ensures.front ∙ ap (take s.oldest) c.as_slice.ensures.value) c.count_in.result c.count_in-2.result c.count_in.ensures c.count_in-2.ensures
+    let slots = deque_items c.args.self.now.slots in
+    let key = c.args.key in
+    count_from_yields_List c.filter.result c.count.result c.count.ensures.ran
+    (YieldsList-from_filter _ (λ (t : RingSlot). same_key t.key key) (YieldsList-from_deque slots (cc)) c.filter.ensures.closure (λ x b q k. (search rules, search rules ∙ key_eq_is x.now.key key))) ∙ ring_count key slots

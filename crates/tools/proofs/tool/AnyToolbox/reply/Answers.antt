@@ -1,0 +1,17 @@
+use Rattle.std.proofs.Common.{sym, ap, ◌∙◌, arith}
+use mathlib.Core.Option.{some}
+use Rattle.tools.specs.Calls.{answers_of}
+use Rattle.tools.proofs.Named.{called_known, called_unknown, called_long}
+use Rattle.tools.proofs.tool.AnyToolbox.reply.Goals as goal
+
+pub returns-then-not-is_named : goal.returns-then-not-is_named
+returns-then-not-is_named g c = sym (called_unknown g.T.Tool.own g.T.Tool.plan c.args.call (answers_of c.args.answers) (sym c.if-not-is_named.ensures))
+
+pub returns-then-call-gt-MAX_BYTES : goal.returns-then-call-gt-MAX_BYTES
+returns-then-call-gt-MAX_BYTES g c = sym (called_long g.T.Tool.own g.T.Tool.plan c.args.call (answers_of c.args.answers) (omega arith))
+
+pub returns-in-Ok : goal.returns-in-Ok
+returns-in-Ok g c = ap some c.in-Ok.ensures ∙ sym (called_known g.T.Tool.own g.T.Tool.plan c.args.call (answers_of c.args.answers) (sym c.if-not-is_named.ensures) (omega arith))
+
+pub returns-in-Err : goal.returns-in-Err
+returns-in-Err g c = ap some (c.from.ensures ∙ c.in-Err.ensures) ∙ sym (called_known g.T.Tool.own g.T.Tool.plan c.args.call (answers_of c.args.answers) (sym c.if-not-is_named.ensures) (omega arith))
