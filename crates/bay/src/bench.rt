@@ -6,7 +6,7 @@ use std::alloc::{AllocError, Global};
 use std::io;
 use std::io::Write;
 use toolrun::{Fault, MAX_ANSWERS, Scope, ToolRun};
-use tools::{Call, Cat, First, Reply, SideBySide, Toolbox};
+use tools::{Call, Cat, First, Reply, SideBySide, Space, Toolbox};
 use trees::{Tree, check};
 use values::{Number, Table};
 
@@ -73,13 +73,14 @@ impl Bench {
             table: &self.table,
             root,
         };
+        let mut space = Space::new();
         for position in 0..MAX_STEPS {
-            match self.run.step(toolbox, call, scope) {
+            match self.run.step(toolbox, call, scope, &mut space) {
                 Ok(Reply::Fetch(path)) => {
-                    tell_line(rt, b"fetch", path.as_slice())?;
+                    tell_line(rt, b"fetch", path)?;
                     tell_answer(rt, self.run.answers().get(position).flatten())?;
                 }
-                Ok(Reply::Product(text)) => return tell_line(rt, b"product", text.as_slice()),
+                Ok(Reply::Product(text)) => return tell_line(rt, b"product", text),
                 Ok(Reply::Failure(code)) => return println!(rt; "failure {code}"),
                 Err(fault) => return tell_fault(rt, fault),
             }

@@ -25,3 +25,7 @@ module _ {X : Type 0} (ys xs : List X) where
 
     pub copied_all : r ≡ None → ys ≡ take (length ys) xs → ys ≡ xs
     copied_all is e = e ∙ take_all (length ys) xs (none_past xs (length ys) (next ∙ is))
+
+-- ys begins xs, and is as long as xs may be
+pub copied_full : {X : Type 0} (ys xs : List X) → 64 ≤ length ys → length xs ≤ 64 → ys ≡ take (length ys) xs → ys ≡ xs
+copied_full ys xs full few e = e ∙ take_all (length ys) xs (omega (arith, full, few))

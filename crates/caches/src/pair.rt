@@ -6,7 +6,7 @@ ghost use Rattle.caches.specs.Exact.{AddsBoth, TakesEither};
 ghost use Rattle.caches.specs.Laws.{member_split};
 
 use crate::beside::Beside;
-use crate::caches::Cache;
+use crate::caches::{Cache, MOST_ANSWERS};
 use crate::keys::Key;
 use crate::offers::Offer;
 use crate::questions::{Answered, Answers};
@@ -35,7 +35,10 @@ pub fn recall<C: Cache>(cache: &C, key: Key, k: u16) -> Answers
     ensures recalled { result.items ≡ answers_at key k (C.Cache.held cache.now) }
 {
     let mut answers = Answers::new();
-    while let Some(answered) = cache.answer(key, k, answers.len() as u16) {
+    while answers.len() < MOST_ANSWERS {
+        let Some(answered) = cache.answer(key, k, answers.len() as u16) else {
+            return answers;
+        };
         answers.push(answered);
     }
     answers

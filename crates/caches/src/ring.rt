@@ -1,16 +1,16 @@
 // A cache that keeps every entry of at most 64 answers, and holds the 16 newest.
-ghost use Rattle.std.specs.Prelude.{◌≡◌, ◌≤◌, [], ◌∷◌, ◌++◌, IfOk};
+ghost use Rattle.std.specs.Prelude.{◌≡◌, ◌≤◌, [], ◌∷◌, ◌++◌, length, IfOk};
 ghost use Rattle.std.specs.VecDeque.{deque_items, deque_len, deque_capacity};
 ghost use Rattle.std.specs.List.{slice_get};
 ghost use Rattle.std.specs.Option.{option_map};
-ghost use Rattle.caches.specs.Entries.{with_key};
+ghost use Rattle.caches.specs.Entries.{with_key, offered};
 ghost use Rattle.caches.specs.Exact.{Looks, Turns, newest};
 ghost use Rattle.caches.specs.Rings.{ring_entry};
 ghost use Rattle.std.proofs.Common.{arith};
 ghost use Rattle.std.proofs.lemmas.List.{length-map};
 ghost use Rattle.caches.specs.Laws.{ring_short};
 
-use crate::caches::Cache;
+use crate::caches::{Cache, MOST_ANSWERS};
 use crate::keys::Key;
 use crate::offers::Offer;
 use crate::questions::Answered;
@@ -51,14 +51,20 @@ impl Ring {
             .nth(usize::from(k))
     }
 
-    // Puts a slot behind the others. Of 16 the oldest goes.
-    fn put(&mut self, slot: RingSlot)
-        ensures { ring_held self.new ≡ newest 16 (ring_held self.old ++ ring_entry slot ∷ []) }
+    // Puts an entry behind the others. Of 16 the oldest goes, and its slot is filled anew.
+    fn put(&mut self, offer: Offer)
+        requires { length offer.answers.now ≤ 64 }
+        ensures { ring_held self.new ≡ newest 16 (ring_held self.old ++ offered offer.entry ∷ []) }
     {
-        if self.slots.len() == ROOM {
-            let _ = self.slots.pop_front();
+        if self.slots.len() < ROOM {
+            let slot = RingSlot::without_answers(offer.key, offer.product);
+            self.slots.push_back_reserved(slot);
+        } else {
+            self.slots.rotate_left(1);
         }
-        self.slots.push_back_reserved(slot);
+        if let Some(slot) = self.slots.back_mut() {
+            slot.refill(offer);
+        }
     }
 }
 
@@ -92,12 +98,12 @@ impl Cache for Ring {
         self.kth(key, k).map(|slot| slot.product)
     }
 
-    #[tactic(auto, using(crate::proofs::Rings::ring_added, crate::specs::Laws::slot_short))]
+    #[tactic(auto, using(crate::proofs::Rings::ring_added))]
     fn add(&mut self, offer: Offer) -> bool {
-        let Some(slot) = RingSlot::new(offer) else {
+        if offer.answers.len() > MOST_ANSWERS {
             return false;
-        };
-        self.put(slot);
+        }
+        self.put(offer);
         true
     }
 

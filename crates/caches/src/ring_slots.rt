@@ -16,19 +16,31 @@ pub struct RingSlot {
 }
 
 impl RingSlot {
-    ghost use Rattle.std.specs.Prelude.{◌≡◌, ◌<◌, MatchOption};
-    ghost use Rattle.caches.specs.Entries.{offered};
+    ghost use Rattle.std.specs.Prelude.{◌≡◌, []};
+    ghost use Rattle.caches.specs.Entries.{entry, offered};
     ghost use Rattle.caches.specs.Rings.{ring_entry};
 
-    // The slot of what is offered, unless it has over 64 answers.
-    pub(crate) fn new(offer: Offer) -> Option<RingSlot>
-        ensures { MatchOption result (64 < length offer.entry.answers.now) (λ s. ring_entry s ≡ offered offer.entry) }
+    // A slot whose answers are still to come.
+    pub(crate) fn without_answers(key: Key, product: Number) -> RingSlot
+        ensures { ring_entry result ≡ entry key product [] }
     {
-        let answers = Answers::try_from(offer.answers).ok()?;
-        Some(RingSlot {
-            key: offer.key,
-            product: offer.product,
-            answers,
-        })
+        RingSlot {
+            key,
+            product,
+            answers: Answers::new(),
+        }
+    }
+
+    // Keeps what is offered in place of what it kept.
+    pub(crate) fn refill(&mut self, offer: Offer)
+        requires { length offer.answers.now ≤ 64 }
+        ensures { ring_entry self.new ≡ offered offer.entry }
+    {
+        self.key = offer.key;
+        self.product = offer.product;
+        self.answers.truncate(offer.answers.len());
+        let (over, behind) = offer.answers.split_at(self.answers.len());
+        self.answers.as_mut_slice().copy_from_slice(over);
+        let _ = self.answers.try_extend_from_slice(behind);
     }
 }

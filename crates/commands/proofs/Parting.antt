@@ -1,49 +1,52 @@
 -- Words taken from a line part by part, and what they ask. Assumes nothing.
-use Rattle.std.proofs.Common.{◌≡◌, ℕ, zero, suc, ◌+◌, ◌-◌, ◌≤◌, cond, eqb, codes, List, [], ◌∷◌, ◌++◌, map, length, get_or, drop, Option, Some, None, subst, sym, refl, ap, ◌∙◌, append_assoc, append-nil, arith, length-append, Bor}
-use Rattle.std.specs.Iterator.{Yields}
-use Rattle.std.specs.List.{slice_split}
-use Rattle.std.proofs.lemmas.Iterator.{YieldsList}
-use Rattle.std.proofs.lemmas.Iterator.Consumers.{YieldsList-turn, YieldsList-end}
-use Rattle.std.proofs.lemmas.List.{drop_more, drop_all}
+use Rattle.std.proofs.Common.{◌≡◌, ℕ, zero, suc, ◌+◌, ◌-◌, ◌<◌, ◌≤◌, true, cond, codes, List, [], ◌∷◌, ◌++◌, map, length, get_or, take, drop, Option, Some, None, sym, refl, ap, ◌∙◌, append_assoc, arith, Bor}
+use Rattle.std.specs.List.{AllWithin, HoldsAt}
+use Rattle.std.specs.Option.{MatchOption, unwrap_or}
+use Rattle.std.proofs.lemmas.Bool.{eq-eqb}
+use Rattle.std.proofs.lemmas.List.{drop_more, drop_all, take_rest}
 use Rattle.values.proofs.Sameness.{differs}
-use Rattle.trees.specs.Files.{split}
-use Rattle.trees.proofs.Names.{split_is}
-use Rattle.commands.specs.Words.{filled, help, caches, unknown, tree, tool, one_word, two_words, more_words, last_of, command_of}
+use Rattle.trees.specs.Cuts.{free, behind}
+use Rattle.trees.specs.Files.{push, split}
+use Rattle.trees.proofs.Cutting.{rest_parts, cut_splits}
+use Rattle.commands.specs.Words.{filled, words_of, help, caches, unknown, tree, tool, one_word, two_words, more_words, last_of, command_of}
 
 filled_full : (p : List ℕ) (ps : List (List ℕ)) → (length p ≡ 0 → ⊥) → filled (p ∷ ps) ≡ p ∷ filled ps
 filled_full [] ps h = absurd (h refl)
 filled_full (b ∷ p) ps h = refl
 
-filled_empty : (p : List ℕ) (ps : List (List ℕ)) → length p ≡ 0 → filled (p ∷ ps) ≡ filled ps
-filled_empty [] ps h = refl
-filled_empty (b ∷ p) ps h = absurd (omega arith)
+-- where the first byte stands that is no blank, if there is one
+abbrev pub Starts : List ℕ → Option ℕ → Type 0
+Starts l o = MatchOption o (AllWithin (λ b. b ≡ 32) l 0 (length l)) (λ i. (i < length l) × HoldsAt (λ b. b ≡ 32 → ⊥) l i × AllWithin (λ b. b ≡ 32) l 0 i)
 
--- the library's parts are the definition's
-pub parted : {S : Type 0} {steps : S → Option (Bor (List ℕ)) → S → Type 0} {s : S} (line : List ℕ) → YieldsList steps (λ x. x.now) s (slice_split (λ b. eqb b 32) line) → YieldsList steps (λ x. x.now) s (split 32 line)
-parted {S} {steps} {s} line road = subst (λ ps. YieldsList steps (λ x. x.now) s ps) (split_is 32 line) road
+blank_more : (b : ℕ) (l : List ℕ) → b ≡ 32 → words_of (b ∷ l) ≡ words_of l
+blank_more b l e = ap (λ t. filled (cond t ([] ∷ split 32 l) (push b (split 32 l)))) (eq-eqb b 32 e)
 
--- an iterator over the parts of a line: the words so far and those to come, before a part and behind it
-module _ {S : Type 0} {steps : S → Option (Bor (List ℕ)) → S → Type 0} {s t : S} (u : S) (ps : List (List ℕ)) (xs : List (Bor (List ℕ))) (r : Option (Bor (List ℕ))) (road : YieldsList steps (λ x. x.now) s ps) (y : Yields steps s xs t) (n : steps t r u) where
-  part : (x : Bor (List ℕ)) → r ≡ Some x → drop (length xs) ps ≡ x.now ∷ drop (length xs + 1) ps
-  part x e = let h = YieldsList-turn road xs t y r u x e n in drop_more ps (length xs) x.now h.0 ∙ ap (λ w. w ∷ drop (length xs + 1) ps) (sym h.1)
+-- blanks in front are passed over
+skipped : (l : List ℕ) (i : ℕ) → i ≤ length l → AllWithin (λ b. b ≡ 32) l 0 i → words_of (drop i l) ≡ words_of l
+skipped l zero h a = refl
+skipped [] (suc i) h a = absurd (omega arith)
+skipped (b ∷ l) (suc i) h a = skipped l i (omega arith) (λ k d p q. a (suc k) d (omega arith) (omega arith)) ∙ sym (blank_more b l (a 0 b (omega arith) (omega arith)))
 
-  longer : (x : Bor (List ℕ)) → length (xs ++ x ∷ []) ≡ length xs + 1
-  longer x = length-append xs (x ∷ [])
+pub all_blank : (l : List ℕ) → Starts l None → words_of l ≡ []
+all_blank l a = sym (skipped l (length l) (omega arith) a) ∙ ap words_of (drop_all (length l) l (omega arith))
 
-  pub word_more : (x : Bor (List ℕ)) (ws all : List (List ℕ)) → r ≡ Some x → (length x.now ≡ 0 → ⊥) → ws ++ filled (drop (length xs) ps) ≡ all → (ws ++ x.now ∷ []) ++ filled (drop (length (xs ++ x ∷ [])) ps) ≡ all
-  word_more x ws all e h i =
-      let on = drop (length xs + 1) ps in
-      ap (λ k. (ws ++ x.now ∷ []) ++ filled (drop k ps)) (longer x) ∙ append_assoc ws (x.now ∷ []) (filled on) ∙ ap (λ l. ws ++ l) (sym (ap filled (part x e) ∙ filled_full x.now on h)) ∙ i
+word_there : (b : ℕ) (bs first : List ℕ) (rest : Option (Bor (List ℕ))) → (b ≡ 32 → ⊥) → b ∷ bs ≡ first ++ behind 32 rest → length first ≡ 0 → ⊥
+word_there b bs [] None h e z = absurd (omega (arith, ap length e))
+word_there b bs [] (Some s) h e z = h (ap (λ l. get_or l 0 0) e)
+word_there b bs (x ∷ first) rest h e z = absurd (omega (arith, z))
 
-  pub no_word : (x : Bor (List ℕ)) (ws all : List (List ℕ)) → r ≡ Some x → length x.now ≡ 0 → ws ++ filled (drop (length xs) ps) ≡ all → ws ++ filled (drop (length (xs ++ x ∷ [])) ps) ≡ all
-  no_word x ws all e h i =
-      let on = drop (length xs + 1) ps in
-      ap (λ k. ws ++ filled (drop k ps)) (longer x) ∙ ap (λ l. ws ++ l) (sym (ap filled (part x e) ∙ filled_empty x.now on h)) ∙ i
+rest_words : (rest : Option (Bor (List ℕ))) (d next : Bor (List ℕ)) → d.now ≡ [] → next ≡ unwrap_or rest d → filled (rest_parts 32 rest) ≡ words_of next.now
+rest_words None d next e h = sym (ap (λ x. words_of x.now) h ∙ ap words_of e)
+rest_words (Some s) d next e h = ap (λ x. words_of x.now) (sym h)
 
-  pub all_words : (ws all : List (List ℕ)) → r ≡ None → ws ++ filled (drop (length xs) ps) ≡ all → ws ≡ all
-  all_words ws all e i =
-      let h = YieldsList-end road xs t y r u e n in
-      sym (append-nil ws) ∙ ap (λ l. ws ++ filled l) (sym (drop_all (length xs) ps (omega (arith, h.1)))) ∙ i
+-- a word more, and the words behind it
+pub word_more : (ws all : List (List ℕ)) (left part : List ℕ) (i : ℕ) (first : List ℕ) (rest : Option (Bor (List ℕ))) (d next : Bor (List ℕ)) → Starts left (Some i) → part ≡ take (length left - i) (drop i left) → part ≡ first ++ behind 32 rest → free 32 first ≡ true → d.now ≡ [] → next ≡ unwrap_or rest d → ws ++ words_of left ≡ all → (ws ++ first ∷ []) ++ words_of next.now ≡ all
+word_more ws all left part i first rest d next s q e f n u inv =
+    let p = q ∙ take_rest left i in
+    let there = word_there (get_or left i 0) (drop (i + 1) left) first rest (s.1 0) (sym (drop_more left i 0 s.0) ∙ sym p ∙ e) in
+    let word : words_of part ≡ first ∷ filled (rest_parts 32 rest) = ap filled (cut_splits 32 part first rest e f) ∙ filled_full first (rest_parts 32 rest) there in
+    let all_left : words_of left ≡ first ∷ words_of next.now = sym (skipped left i (omega (arith, s.0)) s.2) ∙ ap words_of (sym p) ∙ word ∙ ap (λ l. first ∷ l) (rest_words rest d next n u) in
+    append_assoc ws (first ∷ []) (words_of next.now) ∙ ap (λ l. ws ++ l) (sym all_left) ∙ inv
 
 -- what three words or more ask
 ends : (w : Bor (List ℕ)) (ws : List (Bor (List ℕ))) (d : Bor (List ℕ)) (k : ℕ) → k ≡ length ws → (get_or (w ∷ ws) k d).now ≡ last_of w.now (map (λ x. x.now) ws)

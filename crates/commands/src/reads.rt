@@ -4,16 +4,18 @@ ghost use Rattle.commands.specs.Words.{words_of, line_words, one_word, two_words
 
 use crate::asked::Command;
 use std::alloc::{AllocError, Global};
+use trees::cut;
 
-// The words of a line: its parts between blanks, empty ones left out.
+// The words of a line: its parts between blanks, empty ones left out. A run of blanks is passed over at once.
 fn words(heap: Global, line: &[u8]) -> Result<Vec<&[u8]>, AllocError>
     ensures { IfOk result (λ v. map (λ x. x.now) v.items ≡ words_of line.now) }
 {
     let mut words = Vec::new(heap);
-    for part in line.split(|b| *b == b' ') {
-        if !part.is_empty() {
-            words.push(part)?;
-        }
+    let mut left = line;
+    while let Some(start) = left.iter().position(|b| *b != b' ') {
+        let parts = cut(&left[start..], b' ');
+        words.push(parts.first)?;
+        left = parts.rest.unwrap_or(&[]);
     }
     Ok(words)
 }

@@ -1,12 +1,14 @@
 -- Reading from the front: names, prefixes, contents. Assumes nothing.
-use Rattle.std.proofs.Common.{◌≡◌, ℕ, suc, ◌+◌, ◌<◌, Bool, true, false, cond, List, [], ◌∷◌, ◌++◌, length, drop, Decides, sym, refl, ap, ◌∙◌, arith, take}
+use Rattle.std.proofs.Common.{◌≡◌, ℕ, suc, ◌+◌, ◌<◌, Bool, true, false, cond, not, eqb, List, [], ◌∷◌, ◌++◌, length, drop, Decides, sym, refl, ap, ◌∙◌, arith, take}
 use Rattle.std.proofs.lemmas.Bool.{and_parts}
 use mathlib.Core.Option.{Option, none, some}
 use Rattle.std.proofs.lemmas.List.{length-append}
 use Rattle.std.specs.List.{prefix_len}
 use Rattle.values.specs.Values.{mapped}
 use Rattle.values.specs.Limits.{name_byte, name_bytes}
-use Rattle.trees.specs.Files.{prefixed}
+use Rattle.trees.specs.Cuts.{free}
+use Rattle.trees.specs.Files.{escape, prefixed}
+use Rattle.trees.proofs.Splits.{no}
 use Rattle.trees.proofs.Spellings.{never}
 use Rattle.entering.specs.Levels.{front_name, GoesOn}
 
@@ -50,3 +52,14 @@ some_room w b (some t) s e =
 
 pub not_wrong : {P : Type 0} (w s : List ℕ) (o whole : Option (List ℕ)) → o ≡ none → mapped (λ t. w ++ t) o ≡ whole → whole ≡ some s → P
 not_wrong w s o whole e k f = never (ap (mapped (λ t. w ++ t)) (sym e) ∙ k ∙ f)
+
+-- without escapes the bytes of a content are its text
+pub plain_text : (s : List ℕ) → free 92 (escape s) ≡ true → escape s ≡ s
+plain_text [] f = refl
+plain_text (b ∷ bs) f = go (eqb b 10) (eqb b 9) (eqb b 92) refl f (plain_text bs)
+  where
+    go : (x y w : Bool) → eqb b 92 ≡ w → free 92 (cond x (92 ∷ 110 ∷ escape bs) (cond y (92 ∷ 116 ∷ escape bs) (cond w (92 ∷ 92 ∷ escape bs) (b ∷ escape bs)))) ≡ true → (free 92 (escape bs) ≡ true → escape bs ≡ bs) → cond x (92 ∷ 110 ∷ escape bs) (cond y (92 ∷ 116 ∷ escape bs) (cond w (92 ∷ 92 ∷ escape bs) (b ∷ escape bs))) ≡ b ∷ bs
+    go true y w e f h = no (sym (and_parts (not (eqb 92 92)) (free 92 (110 ∷ escape bs)) f).0)
+    go false true w e f h = no (sym (and_parts (not (eqb 92 92)) (free 92 (116 ∷ escape bs)) f).0)
+    go false false true e f h = no (sym (and_parts (not (eqb 92 92)) (free 92 (92 ∷ escape bs)) f).0)
+    go false false false e f h = ap (λ l. b ∷ l) (h (and_parts (not (eqb b 92)) (free 92 (escape bs)) f).1)

@@ -1,7 +1,8 @@
 // Entering what stands at the end of a line: kind, tab and content.
-ghost use Rattle.std.specs.Prelude.{◌≡◌};
+ghost use Rattle.std.specs.Prelude.{◌≡◌, []};
 ghost use Rattle.std.proofs.Math.Option.{some};
 ghost use Rattle.values.specs.Memory.{values};
+ghost use Rattle.trees.specs.Cuts.{free};
 ghost use Rattle.trees.specs.Files.{unescape as meaning};
 ghost use Rattle.entering.specs.Levels.{HasContent, HasLeaf, HasLine};
 ghost use Rattle.entering.specs.Steps.{EntersContent, EntersLeaf, EntersLine};
@@ -12,18 +13,24 @@ use arrayvec::ArrayVec;
 use trees::{cut, next_byte};
 use values::{LONGEST_TEXT, Number, Table};
 
-// The text of a content, without its escapes.
-fn unescape(content: &[u8]) -> ArrayVec<u8, LONGEST_TEXT>
-    requires { HasContent content.now 1024 }
-    ensures { some result.items ≡ meaning content.now }
+// Whether a content has no escapes, and so is its own text.
+fn is_plain(content: &[u8]) -> bool
+    ensures { result ≡ free 92 content.now }
 {
-    let mut text = ArrayVec::new();
+    content.iter().all(|b| *b != b'\\')
+}
+
+// Writes the text of a content, without its escapes. The text is lent, so that its memory is not moved.
+fn unescape(content: &[u8], text: &mut ArrayVec<u8, LONGEST_TEXT>)
+    requires content { HasContent content.now 1024 }
+    requires empty { text.old.items ≡ [] }
+    ensures { some text.new.items ≡ meaning content.now }
+{
     let mut left = content;
     while let Ok(Some((byte, rest))) = next_byte(left) {
         text.push(byte);
         left = rest;
     }
-    text
 }
 
 // Enters the text of a content.
@@ -31,7 +38,12 @@ fn enter_content(table: &mut Table, content: &[u8]) -> Result<Number, Full>
     requires { HasContent content.now 1024 }
     ensures { EntersContent content.now (values table.old) result (values table.new) }
 {
-    enter_text(table, &unescape(content))
+    if is_plain(content) {
+        return enter_text(table, content);
+    }
+    let mut text = ArrayVec::new();
+    unescape(content, &mut text);
+    enter_text(table, &text)
 }
 
 // Enters a leaf: a text, a truth value, or the empty binding.

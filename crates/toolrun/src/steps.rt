@@ -9,7 +9,7 @@ use crate::faults::Fault;
 use crate::fetches::is_fetchable;
 use crate::scope::Scope;
 use crate::store::ToolRun;
-use tools::{Call, Reply, Toolbox};
+use tools::{Call, Reply, Space, Toolbox};
 
 impl ToolRun {
     // Fetches a path and keeps its answer.
@@ -23,20 +23,21 @@ impl ToolRun {
     }
 
     // The next event of a tool's run over the value of a scope. A path that is told was fetched, and its answer is now the last one;
-    // a product or a failure ends the run, and so does a fault.
-    pub fn step<X: Toolbox>(
+    // a product or a failure ends the run, and so does a fault. A path or a product stands in the space that is lent.
+    pub fn step<'o, X: Toolbox>(
         &mut self,
         toolbox: &X,
         call: Call<'_>,
         scope: Scope<'_>,
-    ) -> Result<Reply, Fault>
+        space: &'o mut Space,
+    ) -> Result<Reply<'o>, Fault>
         ensures { (v : Value) → standing scope.entry ≡ some v → Goes (event (X.Toolbox.tools toolbox.now) call.entry.name.now call.entry.command.now v (kept self.old)) (kept self.old) result (kept self.new) }
     {
-        let Some(reply) = toolbox.reply(call, self.answers()) else {
+        let Some(reply) = toolbox.reply(call, self.answers(), space) else {
             return Err(Fault::Unknown);
         };
-        if let Reply::Fetch(path) = &reply {
-            self.fetch(scope, path.as_slice())?;
+        if let Reply::Fetch(path) = reply {
+            self.fetch(scope, path)?;
         }
         Ok(reply)
     }

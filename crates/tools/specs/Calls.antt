@@ -38,8 +38,8 @@ Splits given (Some (a, others)) = given ≡ told a ∷ answers_of others
 
 -- what a reply says
 abbrev pub says : Replied → Reply
-says (Fetch path) = fetch path.items
-says (Product text) = product text.items
+says (Fetch path) = fetch path.now
+says (Product text) = product text.now
 says (Failure code) = failure code
 
 -- what a toolbox replies to a call and the answers so far

@@ -4,7 +4,7 @@ ghost use Rattle.tools.specs.Plans.{beside as beside_of};
 ghost use Rattle.tools.specs.Sound.{beside_sound};
 
 use crate::answers::Answers;
-use crate::replies::Reply;
+use crate::replies::{Reply, Space};
 use crate::toolbox::{Call, Toolbox};
 
 // Two toolboxes, themselves a toolbox: left's tool if left has the name, else right's.
@@ -23,10 +23,15 @@ impl<L: Toolbox, R: Toolbox> Toolbox for SideBySide<L, R> {
         self.left.version(name).or_else(|| self.right.version(name))
     }
 
-    fn reply(&self, call: Call<'_>, answers: Answers<'_>) -> Option<Reply> {
+    fn reply<'o>(
+        &self,
+        call: Call<'_>,
+        answers: Answers<'_>,
+        space: &'o mut Space,
+    ) -> Option<Reply<'o>> {
         match self.left.version(call.name) {
-            Some(_) => self.left.reply(call, answers),
-            None => self.right.reply(call, answers),
+            Some(_) => self.left.reply(call, answers, space),
+            None => self.right.reply(call, answers, space),
         }
     }
 }

@@ -7,7 +7,7 @@ ghost use Rattle.tools.specs.Calls.{answers_of, ends};
 ghost use Rattle.tools.specs.Sound.{first_small};
 
 use crate::answers::Answers;
-use crate::replies::{Failed, Reply, Text, fetching};
+use crate::replies::{Failed, MAX_BYTES, Reply, Space, Text, fetching, write};
 use crate::tool::{Command, Tool};
 use trees::cut;
 
@@ -16,18 +16,23 @@ use trees::cut;
 pub struct First;
 
 // A text as product, unless it has over 1,024 bytes.
-fn give(text: &[u8]) -> Result<Reply, Failed>
+fn give<'o>(text: &[u8], out: &'o mut Text) -> Result<Reply<'o>, Failed>
     ensures { ends result ≡ within text.now (product text.now) }
 {
-    match Text::try_from(text) {
-        Ok(text) => Ok(Reply::Product(text)),
-        Err(_) => Err(Failed::TooLong),
+    if text.len() <= MAX_BYTES {
+        Ok(Reply::Product(write(text, out)))
+    } else {
+        Err(Failed::TooLong)
     }
 }
 
 // What is replied where a command has at least one path. The paths are walked beside the answers as in `cat`; with the turn as a parameter
 // the walk would be longer than both.
-fn choose(command: Command<'_>, answers: Answers<'_>) -> Result<Reply, Failed>
+fn choose<'o>(
+    command: Command<'_>,
+    answers: Answers<'_>,
+    out: &'o mut Text,
+) -> Result<Reply<'o>, Failed>
     ensures { ends result ≡ choosing_of (split 32 command.entry.bytes.now) (answers_of answers.entry) }
 {
     let mut left = command.bytes;
@@ -35,10 +40,10 @@ fn choose(command: Command<'_>, answers: Answers<'_>) -> Result<Reply, Failed>
     loop {
         let paths = cut(left, b' ');
         let Some((answer, others)) = given.split_first() else {
-            return Ok(fetching(paths.first));
+            return Ok(fetching(paths.first, out));
         };
         if let Some(text) = answer {
-            return give(text);
+            return give(text, out);
         }
         let Some(rest) = paths.rest else {
             return Err(Failed::NothingFound);
@@ -59,11 +64,16 @@ impl Tool for First {
         b"first"
     }
 
-    fn step(&self, command: Command<'_>, answers: Answers<'_>) -> Result<Reply, Failed> {
+    fn step<'o>(
+        &self,
+        command: Command<'_>,
+        answers: Answers<'_>,
+        space: &'o mut Space,
+    ) -> Result<Reply<'o>, Failed> {
         if command.bytes.is_empty() {
-            Ok(Reply::Product(Text::new()))
+            Ok(Reply::Product(b""))
         } else {
-            choose(command, answers)
+            choose(command, answers, &mut space.text)
         }
     }
 }

@@ -6,7 +6,7 @@ ghost use Rattle.tools.specs.Calls.{answers_of, ends};
 ghost use Rattle.tools.specs.Sound.{cat_small};
 
 use crate::answers::Answers;
-use crate::replies::{Failed, Reply, Text, fetching};
+use crate::replies::{Failed, Reply, Space, Text, fetching};
 use crate::tool::{Command, Tool};
 use trees::cut;
 
@@ -14,27 +14,31 @@ use trees::cut;
 #[derive(Clone, Copy)]
 pub struct Cat;
 
-// What is replied where a command has at least one path. The paths are walked beside the answers as in `first`; with the turn as a parameter
+// What is replied where a command has at least one path: the texts are joined in lent memory. The paths are walked beside the answers as in `first`; with the turn as a parameter
 // the walk would be longer than both.
-fn join(command: Command<'_>, answers: Answers<'_>) -> Result<Reply, Failed>
+fn join<'o>(
+    command: Command<'_>,
+    answers: Answers<'_>,
+    out: &'o mut Text,
+) -> Result<Reply<'o>, Failed>
     ensures { ends result ≡ joining_of [] (split 32 command.entry.bytes.now) (answers_of answers.entry) }
 {
-    let mut text = Text::new();
+    out.clear();
     let mut left = command.bytes;
     let mut given = answers;
     loop {
         let paths = cut(left, b' ');
         let Some((answer, others)) = given.split_first() else {
-            return Ok(fetching(paths.first));
+            return Ok(fetching(paths.first, out));
         };
         let Some(piece) = answer else {
             return Err(Failed::NothingFound);
         };
-        if text.try_extend_from_slice(piece).is_err() {
+        if out.try_extend_from_slice(piece).is_err() {
             return Err(Failed::TooLong);
         }
         let Some(rest) = paths.rest else {
-            return Ok(Reply::Product(text));
+            return Ok(Reply::Product(out.as_slice()));
         };
         left = rest;
         given = others;
@@ -52,11 +56,16 @@ impl Tool for Cat {
         b"cat"
     }
 
-    fn step(&self, command: Command<'_>, answers: Answers<'_>) -> Result<Reply, Failed> {
+    fn step<'o>(
+        &self,
+        command: Command<'_>,
+        answers: Answers<'_>,
+        space: &'o mut Space,
+    ) -> Result<Reply<'o>, Failed> {
         if command.bytes.is_empty() {
-            Ok(Reply::Product(Text::new()))
+            Ok(Reply::Product(b""))
         } else {
-            join(command, answers)
+            join(command, answers, &mut space.text)
         }
     }
 }

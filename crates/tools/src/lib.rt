@@ -16,7 +16,7 @@ pub use crate::beside::SideBySide;
 pub use crate::choosing::First;
 pub use crate::examples::{examples_hold, laws_hold};
 pub use crate::joining::Cat;
-pub use crate::replies::{Failed, MAX_BYTES, Reply, Text};
+pub use crate::replies::{Failed, MAX_BYTES, Reply, Space};
 pub use crate::tool::{Command, Tool};
 pub use crate::toolbox::{Call, Toolbox};
 pub use crate::uses::{next_of_both, next_of_cat, next_of_first, next_of_nested, next_path};

@@ -7,7 +7,7 @@ ghost use Rattle.tools.specs.Sound.{only_sound};
 ghost use Rattle.tools.specs.Calls.{answers_of, ends};
 
 use crate::answers::Answers;
-use crate::replies::{Failed, MAX_BYTES, Reply};
+use crate::replies::{Failed, MAX_BYTES, Reply, Space, reply_of};
 use crate::toolbox::{Call, Toolbox};
 
 // A command that a tool may be given: at most 1,024 bytes.
@@ -27,8 +27,13 @@ pub trait Tool {
     fn name(&self) -> &'static [u8]
         ensures { result.now ≡ own };
 
-    // What it replies to a command and the answers so far.
-    fn step(&self, command: Command<'_>, answers: Answers<'_>) -> Result<Reply, Failed>
+    // What it replies to a command and the answers so far. A path or a product stands in the space that is lent.
+    fn step<'o>(
+        &self,
+        command: Command<'_>,
+        answers: Answers<'_>,
+        space: &'o mut Space,
+    ) -> Result<Reply<'o>, Failed>
         ensures { ends result ≡ plan command.entry.bytes.now (answers_of answers.entry) };
 
     ghost small: { (command : List ℕ) (given : List Answer) → length command ≤ 1024 → Small (plan command given) };
@@ -50,7 +55,12 @@ impl<T: Tool> Toolbox for T {
         if is_named(self, name) { Some(1) } else { None }
     }
 
-    fn reply(&self, call: Call<'_>, answers: Answers<'_>) -> Option<Reply> {
+    fn reply<'o>(
+        &self,
+        call: Call<'_>,
+        answers: Answers<'_>,
+        space: &'o mut Space,
+    ) -> Option<Reply<'o>> {
         if !is_named(self, call.name) {
             return None;
         }
@@ -60,9 +70,6 @@ impl<T: Tool> Toolbox for T {
         let command = Command {
             bytes: call.command,
         };
-        match self.step(command, answers) {
-            Ok(reply) => Some(reply),
-            Err(failed) => Some(Reply::from(failed)),
-        }
+        Some(reply_of(self.step(command, answers, space)))
     }
 }

@@ -4,7 +4,7 @@ ghost use Rattle.tools.specs.Tools.{Tools, AllSound};
 ghost use Rattle.tools.specs.Calls.{answers_of, version_of, called, replied};
 
 use crate::answers::Answers;
-use crate::replies::Reply;
+use crate::replies::{Reply, Space};
 
 // A call of a tool: its name, and the command that it is given.
 #[derive(Clone, Copy)]
@@ -23,8 +23,13 @@ pub trait Toolbox {
         ensures { result ≡ version_of (tools self.now) name.now };
 
     // What the tool that is called replies to its command and the answers so far. There is no reply from an unknown name, or to a
-    // command of over 1,024 bytes.
-    fn reply(&self, call: Call<'_>, answers: Answers<'_>) -> Option<Reply>
+    // command of over 1,024 bytes. A path or a product stands in the space that is lent.
+    fn reply<'o>(
+        &self,
+        call: Call<'_>,
+        answers: Answers<'_>,
+        space: &'o mut Space,
+    ) -> Option<Reply<'o>>
         ensures { replied result ≡ called (tools self.now) call.entry (answers_of answers.entry) };
 
     ghost sound: { (s : Self) → AllSound (tools s) };

@@ -1,6 +1,6 @@
 -- An index that climbs by keys: halving, one number more, and the numbers below a limit. Assumes nothing.
 use Rattle.std.proofs.Common.{◌≡◌, ℕ, zero, suc, ◌+◌, ◌<◌, ◌≤◌, Bool, true, false, cond, ◌&&◌, eqb, ltb, ◌⊎◌, List, [], ◌∷◌, length, get_or, take, drop, filter, Ordering, Less, Equal, Greater, sym, refl, ap, ◌∙◌, subst, inl, inr, ⊎_elim, arith}
-use Rattle.std.specs.Ordering.{MatchOrdering, ordering_index}
+use Rattle.std.specs.Ordering.{MatchOrdering}
 use Rattle.std.specs.List.{insert}
 use Rattle.std.proofs.lemmas.Bool.Decides.{nat_tests}
 use Rattle.std.proofs.lemmas.Bool.{and_parts, and_from, eqb-true, eq-eqb, ltb-true, lt-ltb, le-ltb, cases_order, cases_lt}
@@ -60,19 +60,6 @@ order_tells a b o e = go (same_name a b) (before a b) refl refl o e
     go false true p q o f = subst (λ o. MatchOrdering o (true ≡ true) (a ≡ b) (before b a ≡ true)) (sym f) refl
     go false false p q o f = subst (λ o. MatchOrdering o (false ≡ true) (a ≡ b) (before b a ≡ true)) (sym f) (⊎_elim (λ r. clash (sym ((name_test a b).1 r) ∙ p)) (⊎_elim (λ r. clash (sym r ∙ q)) (λ r. r)) (three a b))
 
--- comparisons with a key rise as keys do
-pub rises : (a b k : Name) → before a b ≡ true → ordering_index (order a k) ≤ ordering_index (order b k)
-rises a b k h = go (order a k) (order b k) (order_tells a k (order a k) refl) (order_tells b k (order b k) refl)
-  where
-    go : (o p : Ordering) → MatchOrdering o (before a k ≡ true) (a ≡ k) (before k a ≡ true) → MatchOrdering p (before b k ≡ true) (b ≡ k) (before k b ≡ true) → ordering_index o ≤ ordering_index p
-    go Less p e f = omega arith
-    go Equal Less e f = absurd (before_self a (before_trans a b a h (ap (before b) e ∙ f)))
-    go Equal Equal e f = omega arith
-    go Equal Greater e f = omega arith
-    go Greater Less e f = absurd (before_self k (before_trans k a k e (before_trans a b k h f)))
-    go Greater Equal e f = absurd (before_self k (before_trans k a k e (ap (before a) (sym f) ∙ h)))
-    go Greater Greater e f = omega arith
-
 other : (i j : ℕ) {a b : ℕ} → (i ≡ j → ⊥) → a ≡ b → cond (ltb j (suc i)) 1 0 + a ≡ cond (ltb j i) 1 0 + b
 other i j h e = let same : cond (ltb j (suc i)) 1 0 ≡ cond (ltb j i) 1 0 = grind (arith, nat_tests) in (λ x. same x + e x)
 
@@ -88,13 +75,7 @@ module _ (key : ℕ → List ℕ) where
   after_at k (i ∷ is) zero h f = (and_parts (before k (key i)) (all_after key k is) f).0
   after_at k (i ∷ is) (suc m) h f = after_at k is m (omega arith) (and_parts (before k (key i)) (all_after key k is) f).1
 
-  pub climbs_at : (is : List ℕ) (i j : ℕ) → i < j → j < length is → climbs key is ≡ true → before (key (get_or is i 0)) (key (get_or is j 0)) ≡ true
-  climbs_at [] i j h l c = absurd (omega arith)
-  climbs_at (n ∷ is) i zero h l c = absurd (omega arith)
-  climbs_at (n ∷ is) zero (suc j) h l c = after_at (key n) is j (omega arith) (and_parts (all_after key (key n) is) (climbs key is) c).0
-  climbs_at (n ∷ is) (suc i) (suc j) h l c = climbs_at is i j (omega arith) (omega arith) (and_parts (all_after key (key n) is) (climbs key is) c).1
-
-  -- searching: what stands up to a smaller key is smaller, what stands from a larger key on is larger
+  -- halving: what stands up to a smaller key is smaller, what stands from a larger key on is larger
   front : (k : List ℕ) (is : List ℕ) (m : ℕ) → m < length is → climbs key is ≡ true → before (key (get_or is m 0)) k ≡ true → all_before key k (take (suc m) is) ≡ true
   front k [] m h c e = absurd (omega arith)
   front k (i ∷ is) zero h c e = and_from (before (key i) k) true e refl

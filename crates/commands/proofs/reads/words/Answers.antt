@@ -1,32 +1,24 @@
-use Rattle.std.proofs.Common.{◌≡◌, false, eqb, [], ◌∷◌, ◌++◌, map, length, drop, vec_items, ap, ◌∙◌, arith, rules}
-use Rattle.std.proofs.lemmas.Bool.Decides.{nat_tests}
+use Rattle.std.proofs.Common.{◌≡◌, [], ◌∷◌, ◌++◌, map, vec_items, subst, refl, ap, ◌∙◌, append-nil, sym, rules}
+use borrow.Author.Tests.{tests}
 use Rattle.std.proofs.lemmas.List.{map-append}
-use Rattle.std.proofs.lemmas.Iterator.Consumers.{YieldsList-at}
-use Rattle.std.proofs.lemmas.Iterator.Splits.{YieldsList-from_slice_split}
-use Rattle.trees.specs.Files.{split}
-use Rattle.commands.specs.Words.{filled, words_of}
-use Rattle.commands.proofs.Parting.{parted, word_more, no_word, all_words}
+use Rattle.std.proofs.lemmas.Iterator.{IsFirst-from_position, YieldsList-from_slice}
+use Rattle.commands.specs.Words.{words_of}
+use Rattle.commands.proofs.Parting.{Starts, all_blank, word_more}
 use Rattle.commands.proofs.reads.words.Goals as goal
 
-pub loop-part-init : goal.loop-part-init
-loop-part-init c = (
-  parted c.args.line.now (YieldsList-at c.into_iter-part-iterator.ensures.into_iter_gives
-      (YieldsList-from_slice_split _ (λ b. eqb b 32) c.args.line.now c.split-part-items.ensures.rest c.split-part-items.ensures.done c.split-part-items.ensures.closure (λ x b q k. search rules))),
-  ap (λ ws. map (λ x. x.now) ws ++ words_of c.args.line.now) c.new-words.ensures.items,
-)
-
-pub loop-part-preserved-in-Continue-1 : goal.loop-part-preserved-in-Continue-1
-loop-part-preserved-in-Continue-1 c =
-    let there : false ≡ eqb (length c.in-Some.part.now) 0 = c.if-not-is_empty.ensures in
-    let items : vec_items c.push.new.self ≡ vec_items c.loop-part.words ++ c.in-Some.part ∷ [] = search rules in
-    let one = ap (map (λ x. x.now)) items ∙ map-append (λ x. x.now) (vec_items c.loop-part.words) (c.in-Some.part ∷ []) in (
-      c.loop-part.invariant.0,
-      ap (λ ws. ws ++ filled (drop (length (c.loop-part.yielded ++ c.in-Some.part ∷ [])) (split 32 c.args.line.now))) one
-          ∙ word_more c.next.new.self (split 32 c.args.line.now) c.loop-part.yielded c.next.result c.loop-part.invariant.0 c.loop-part.yielded_by c.next.ensures.steps c.in-Some.part _ _ c.in-Some.is (λ z. grind (arith, nat_tests)) c.loop-part.invariant.1,
-    )
-
-pub loop-part-preserved : goal.loop-part-preserved
-loop-part-preserved c = (c.loop-part.invariant.0, no_word c.next.new.self (split 32 c.args.line.now) c.loop-part.yielded c.next.result c.loop-part.invariant.0 c.loop-part.yielded_by c.next.ensures.steps c.in-Some.part _ _ c.in-Some.is (grind (arith, nat_tests, c.if-not-is_empty.ensures)) c.loop-part.invariant.1)
+pub loop-start-preserved : goal.loop-start-preserved
+loop-start-preserved c =
+    let left = c.loop-start.left.now in
+    let h = IsFirst-from_position _ _ c.position.result (λ b. b ≡ 32 → ⊥) (λ b. b ≡ 32) c.position.ensures.ran (YieldsList-from_slice left c.iter.ensures.rest) (λ x q k. search (rules, tests)) (λ x q k. search (rules, tests)) in
+    let starts = subst (Starts left) c.in-Some.is h in
+    let parts = c.cut-parts.result in
+    let items : vec_items c.push.new.self ≡ vec_items c.loop-start.words ++ parts.first ∷ [] = search rules in
+    ap (λ ws. ws ++ words_of c.unwrap_or-left.result.now) (ap (map (λ x. x.now)) items ∙ map-append (λ x. x.now) (vec_items c.loop-start.words) (parts.first ∷ []))
+    ∙ word_more _ _ left _ c.in-Some.start parts.first.now parts.rest _ c.unwrap_or-left.result starts (search rules) c.cut-parts.ensures.0 c.cut-parts.ensures.1 refl c.unwrap_or-left.ensures c.loop-start.invariant
 
 pub returns : goal.returns
-returns c = all_words c.next.new.self (split 32 c.args.line.now) c.loop-part.yielded c.next.result c.loop-part.invariant.0 c.loop-part.yielded_by c.next.ensures.steps _ _ c.in-None.is c.loop-part.invariant.1
+returns c =
+    let left = c.loop-start.left.now in
+    let h = IsFirst-from_position _ _ c.position.result (λ b. b ≡ 32 → ⊥) (λ b. b ≡ 32) c.position.ensures.ran (YieldsList-from_slice left c.iter.ensures.rest) (λ x q k. search (rules, tests)) (λ x q k. search (rules, tests)) in
+    let starts = subst (Starts left) c.in_default.is h in
+    sym (append-nil _) ∙ ap (λ l. map (λ x. x.now) (vec_items c.loop-start.words) ++ l) (sym (all_blank left starts)) ∙ c.loop-start.invariant

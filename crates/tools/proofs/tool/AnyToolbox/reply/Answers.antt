@@ -10,8 +10,5 @@ returns-then-not-is_named g c = sym (called_unknown g.T.Tool.own g.T.Tool.plan c
 pub returns-then-call-gt-MAX_BYTES : goal.returns-then-call-gt-MAX_BYTES
 returns-then-call-gt-MAX_BYTES g c = sym (called_long g.T.Tool.own g.T.Tool.plan c.args.call (answers_of c.args.answers) (omega arith))
 
-pub returns-in-Ok : goal.returns-in-Ok
-returns-in-Ok g c = ap some c.in-Ok.ensures ∙ sym (called_known g.T.Tool.own g.T.Tool.plan c.args.call (answers_of c.args.answers) (sym c.if-not-is_named.ensures) (omega arith))
-
-pub returns-in-Err : goal.returns-in-Err
-returns-in-Err g c = ap some (c.from.ensures ∙ c.in-Err.ensures) ∙ sym (called_known g.T.Tool.own g.T.Tool.plan c.args.call (answers_of c.args.answers) (sym c.if-not-is_named.ensures) (omega arith))
+pub returns : goal.returns
+returns g c = ap some (c.reply_of.ensures ∙ c.step.ensures) ∙ sym (called_known g.T.Tool.own g.T.Tool.plan c.args.call (answers_of c.args.answers) (sym c.if-not-is_named.ensures) (omega arith))

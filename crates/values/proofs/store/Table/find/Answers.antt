@@ -1,30 +1,42 @@
-use Rattle.std.proofs.Common.{◌≡◌, Ok, Err, length, vec_len, vec_items, rules, subst, arith}
-use borrow.Author.Tests.{tests}
-use Rattle.std.specs.List.Sorted.{IsSearchInRange, IsBinarySearchResult}
-use Rattle.std.proofs.lemmas.Fn.{always_returns_same}
-use Rattle.values.specs.Index.{content_key, side, Gap}
+use Rattle.std.proofs.Common.{◌+◌, ◌-◌, ◌/◌, vec_items, Less, Equal, Greater, refl, ◌∙◌, arith}
+use Rattle.std.proofs.lemmas.List.{at_drop_all}
+use Rattle.values.specs.Index.{content_key, all_after}
 use Rattle.values.specs.Memory.{key_of}
-use Rattle.values.proofs.Searches.{searched, at_is}
+use Rattle.values.proofs.Indexes.{order_tells}
+use Rattle.values.proofs.InMemory.{number_below, halved_up, halved_down}
+use Rattle.values.proofs.Searches.{side_there}
 use Rattle.values.proofs.store.Table.find.Goals as goal
 
-pub returns-in_err-place : goal.returns-in_err-place
-returns-in_err-place c =
+pub loop-low-init : goal.loop-low-init
+loop-low-init c =
     let t = c.args.self.now in
-    let k = content_key c.args.sought in
-    let p = c.in_err-place.field-0.0 in
-    let by_side = c.in_err-place.ensures.position (side (key_of t) (vec_len t.nodes) k) (always_returns_same _ _ _ (λ a r g called. search (rules, tests))) in
-    let gap : Gap (key_of t) (vec_items t.index) k p = searched t k (Err p) (subst (λ xs. IsSearchInRange (Err p) (length xs)) c.deref.ensures.value c.in_err-place.ensures.bound)
-    (subst (λ xs. IsBinarySearchResult (side (key_of t) (vec_len t.nodes) k) xs (Err p)) c.deref.ensures.value by_side) in
-    let same : c.from_residual.result ≡ Err p = search rules in
-    rw same gap
+    (omega arith, omega arith, refl, at_drop_all (all_after (key_of t) (content_key c.args.sought)) (vec_items t.index) c.len-high.result (omega (arith, t.index.ok.0)))
 
-pub returns : goal.returns
-returns c =
+pub loop-low-preserved-in-Less : goal.loop-low-preserved-in-Less
+loop-low-preserved-in-Less c =
     let t = c.args.self.now in
     let k = content_key c.args.sought in
-    let p = c.in_ok-place.place in
-    let by_side = c.in_ok-place.ensures.position (side (key_of t) (vec_len t.nodes) k) (always_returns_same _ _ _ (λ a r g called. search (rules, tests))) in
-    let found = searched t k (Ok p) (subst (λ xs. IsSearchInRange (Ok p) (length xs)) c.deref.ensures.value c.in_ok-place.ensures.bound)
-    (subst (λ xs. IsBinarySearchResult (side (key_of t) (vec_len t.nodes) k) xs (Ok p)) c.deref.ensures.value by_side) in
-    let same = at_is t p c.index.result.now (omega (arith, c.deref.ensures.len, c.in_ok-place.ensures.bound)) c.index.ensures in
-    rw same found
+    let m = c.loop-low.low + (c.loop-low.high - c.loop-low.low) / 2 in
+    let i = c.index-number.result.now in
+    let there = number_below t m i (omega arith) c.index-number.ensures in
+    let b = order_tells (key_of t i) k Less (c.in-Less.ensures ∙ side_there t k i there) in
+    (omega arith, c.loop-low.invariant.1, halved_up t k m i (omega arith) c.index-number.ensures b, c.loop-low.invariant.3)
+
+pub returns-in-Equal : goal.returns-in-Equal
+returns-in-Equal c =
+    let t = c.args.self.now in
+    let k = content_key c.args.sought in
+    let m = c.loop-low.low + (c.loop-low.high - c.loop-low.low) / 2 in
+    let i = c.index-number.result.now in
+    let there = number_below t m i (omega arith) c.index-number.ensures in
+    (there, order_tells (key_of t i) k Equal (c.in-Equal.ensures ∙ side_there t k i there))
+
+pub loop-low-preserved : goal.loop-low-preserved
+loop-low-preserved c =
+    let t = c.args.self.now in
+    let k = content_key c.args.sought in
+    let m = c.loop-low.low + (c.loop-low.high - c.loop-low.low) / 2 in
+    let i = c.index-number.result.now in
+    let there = number_below t m i (omega arith) c.index-number.ensures in
+    let b = order_tells (key_of t i) k Greater (c.in-Greater.ensures ∙ side_there t k i there) in
+    (omega arith, omega arith, c.loop-low.invariant.2, halved_down t k m i (omega arith) c.index-number.ensures b)
