@@ -6,7 +6,8 @@ use std::alloc::{AllocError, Global};
 use std::io;
 use std::io::Write;
 use toolrun::{Fault, MAX_ANSWERS, Scope, ToolRun};
-use tools::{Call, Cat, First, Reply, SideBySide, Space, Toolbox};
+use tools::lent::{SideBySide, Toolbox};
+use tools::{Call, Cat, First, Reply, Space};
 use trees::{Tree, check};
 use values::{Number, Table};
 

@@ -4,7 +4,8 @@ use Rattle.std.proofs.Math.Option.{Option}
 use Rattle.values.specs.Values.{Value, nth}
 use Rattle.values.specs.Memory.{values}
 use Rattle.tools.specs.Tools.{Answer, fetch, product, failure}
-use Rattle.tools.specs.Calls.{meant, says}
+use Rattle.tools.specs.Calls.{meant}
+use Rattle.tools.specs.Lent.{says}
 use Rattle.tools.specs.declared.replies.Reply.{Reply}
 use Rattle.toolrun.specs.Runs.{Event, fetched, gives, fails, faults, unknown, has_room}
 use Rattle.toolrun.specs.declared.faults.Fault.{Fault}

@@ -9,7 +9,8 @@ use crate::faults::Fault;
 use crate::fetches::is_fetchable;
 use crate::scope::Scope;
 use crate::store::ToolRun;
-use tools::{Call, Reply, Space, Toolbox};
+use tools::lent::Toolbox;
+use tools::{Call, Reply, Space};
 
 impl ToolRun {
     // Fetches a path and keeps its answer.

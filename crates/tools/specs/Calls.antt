@@ -1,4 +1,4 @@
--- What the code's answers, replies and calls mean. Assumes nothing.
+-- What the code's answers, replies with memory of their own, and calls mean. Assumes nothing.
 use Rattle.std.specs.Prelude.{◌≡◌, ℕ, List, [], ◌∷◌, map, take, drop, Some, None, Option as Perhaps, Ok, Err, Result}
 use Rattle.std.specs.Borrow.{Bor}
 use Rattle.std.proofs.Math.Option.{Option, none, some}
@@ -7,8 +7,8 @@ use Rattle.trees.specs.Contents.{answer}
 use Rattle.tools.specs.Tools.{Answer, Reply, fetch, product, failure, Tools, asked}
 use Rattle.tools.specs.declared.answers.Span.{Span}
 use Rattle.tools.specs.declared.answers.Answers.{Answers}
-use Rattle.tools.specs.declared.replies.Reply.{Reply as Replied}
-use Rattle.tools.specs.declared.replies.Reply.TheVariants.{Fetch, Product, Failure}
+use Rattle.tools.specs.declared.owned.Reply.{Reply as Replied}
+use Rattle.tools.specs.declared.owned.Reply.TheVariants.{Fetch, Product, Failure}
 use Rattle.tools.specs.declared.replies.Failed.{Failed}
 use Rattle.tools.specs.declared.replies.Failed.TheVariants.{NothingFound, TooLong}
 use Rattle.tools.specs.declared.toolbox.Call.{Call}
@@ -36,10 +36,10 @@ abbrev pub Splits : List Answer → Perhaps (Perhaps (Bor (List ℕ)) × Answers
 Splits given None = given ≡ []
 Splits given (Some (a, others)) = given ≡ told a ∷ answers_of others
 
--- what a reply says
+-- what a reply with memory of its own says
 abbrev pub says : Replied → Reply
-says (Fetch path) = fetch path.now
-says (Product text) = product text.now
+says (Fetch path) = fetch path.items
+says (Product text) = product text.items
 says (Failure code) = failure code
 
 -- what a toolbox replies to a call and the answers so far
@@ -56,7 +56,7 @@ abbrev pub code : Failed → ℕ
 code NothingFound = 1
 code TooLong = 2
 
--- how a step of theirs ends
+-- how a step of a `Tool` ends
 abbrev pub ends : Result Replied Failed → Reply
 ends (Ok r) = says r
 ends (Err failed) = failure (code failed)

@@ -1,4 +1,4 @@
-// Two toolboxes side by side.
+// Two toolboxes side by side, which reply in lent memory.
 ghost use Rattle.std.specs.Prelude.{◌≡◌};
 ghost use Rattle.tools.specs.Plans.{beside as beside_of};
 ghost use Rattle.tools.specs.Sound.{beside_sound};

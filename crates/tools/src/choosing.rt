@@ -3,7 +3,8 @@ ghost use Rattle.std.specs.Prelude.{◌≡◌, codes};
 ghost use Rattle.trees.specs.Files.{split};
 ghost use Rattle.tools.specs.Plans.{within, choosing as choosing_of, first as first_plan};
 ghost use Rattle.tools.specs.Tools.{product};
-ghost use Rattle.tools.specs.Calls.{answers_of, ends};
+ghost use Rattle.tools.specs.Calls.{answers_of};
+ghost use Rattle.tools.specs.Lent.{ends};
 ghost use Rattle.tools.specs.Sound.{first_small};
 
 use crate::answers::Answers;

@@ -2,7 +2,8 @@
 ghost use Rattle.std.specs.Prelude.{◌≡◌, [], codes};
 ghost use Rattle.trees.specs.Files.{split};
 ghost use Rattle.tools.specs.Plans.{joining as joining_of, cat as cat_plan};
-ghost use Rattle.tools.specs.Calls.{answers_of, ends};
+ghost use Rattle.tools.specs.Calls.{answers_of};
+ghost use Rattle.tools.specs.Lent.{ends};
 ghost use Rattle.tools.specs.Sound.{cat_small};
 
 use crate::answers::Answers;

@@ -1,15 +1,16 @@
 // Replies of tools.
 ghost use Rattle.std.specs.Prelude.{◌≡◌, ◌<◌, ◌≤◌, [], length, MatchOption};
 ghost use Rattle.tools.specs.Tools.{fetch, failure};
-ghost use Rattle.tools.specs.Calls.{says, code, ends};
+ghost use Rattle.tools.specs.Calls.{code};
+ghost use Rattle.tools.specs.Lent.{says, ends};
 
 use arrayvec::ArrayVec;
 
 // The most bytes that a command, a path and a product have.
 pub const MAX_BYTES: usize = 1024;
 
-// A path or a product while it is put together.
-pub(crate) type Text = ArrayVec<u8, MAX_BYTES>;
+// A path or a product, in memory of its own.
+pub type Text = ArrayVec<u8, MAX_BYTES>;
 
 // Memory for a path or a product, which the caller of a tool lends. It means nothing by itself, and nobody can read it: only a reply tells
 // what stands in it, so that nothing need be said of what else a reply leaves there.

@@ -1,10 +1,11 @@
-// A tool by itself: a toolbox that has this one.
+// A tool by itself that replies in lent memory: a toolbox that has this one.
 ghost use Rattle.std.specs.Prelude.{◌≡◌, ◌≤◌, ℕ, List, length};
 ghost use Rattle.values.specs.Values.{Name, same_name};
 ghost use Rattle.tools.specs.Tools.{Answer, Plan, Small};
 ghost use Rattle.tools.specs.Plans.{only};
 ghost use Rattle.tools.specs.Sound.{only_sound};
-ghost use Rattle.tools.specs.Calls.{answers_of, ends};
+ghost use Rattle.tools.specs.Calls.{answers_of};
+ghost use Rattle.tools.specs.Lent.{ends};
 
 use crate::answers::Answers;
 use crate::replies::{Failed, MAX_BYTES, Reply, Space, reply_of};

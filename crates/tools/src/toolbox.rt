@@ -1,7 +1,8 @@
-// Toolboxes.
+// Toolboxes that reply in lent memory.
 ghost use Rattle.std.specs.Prelude.{◌≡◌};
 ghost use Rattle.tools.specs.Tools.{Tools, AllSound};
-ghost use Rattle.tools.specs.Calls.{answers_of, version_of, called, replied};
+ghost use Rattle.tools.specs.Calls.{answers_of, version_of, called};
+ghost use Rattle.tools.specs.Lent.{replied};
 
 use crate::answers::Answers;
 use crate::replies::{Reply, Space};

@@ -1,4 +1,4 @@
-// Asking any toolbox, and toolboxes of each kind. Each function below `next_path` says at one kind of toolbox what that one
+// Asking any toolbox that replies in lent memory, and such toolboxes of each kind. Each function below `next_path` says at one kind of toolbox what that one
 // says at all of them: its contract shows what the tools of that kind are, which no generic contract can.
 ghost use Rattle.std.specs.Prelude.{◌≡◌, codes};
 ghost use Rattle.std.specs.Option.{option_map};
